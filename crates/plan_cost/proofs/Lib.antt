@@ -1,0 +1,5 @@
+pub mod FirstLemmas
+pub mod ClashLemmas
+pub mod CostLemmas
+pub mod RecordLines
+pub mod PlanTexts

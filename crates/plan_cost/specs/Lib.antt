@@ -1,0 +1,5 @@
+pub mod First
+pub mod Verdict
+pub mod PlanText
+pub mod PlanLine
+pub mod PlanReading

@@ -1,0 +1,174 @@
+use super::*;
+use pair_prices::{Case, Why};
+use station_reader::{Sequence, read_station};
+use std::alloc::{AllocError, Global};
+use std::test::Fail;
+
+/// A station with one platform, one dummy platform and one train.
+const STATION: &str = r#"{"format":"tpp-station","version":1,"threshold":2,"conflict_price":5,
+"directions":["W","E"],
+"platforms":[{"name":"1","dummy":false,"price":1000,"headway":2},
+{"name":"D","dummy":true,"price":100000,"headway":0}],
+"paths":[{"name":"w1","direction":"W","platform":"1","way":"in","minutes":2,"price":0},
+{"name":"e1","direction":"E","platform":"1","way":"out","minutes":2,"price":0}],
+"incompatible":[],
+"trains":[{"name":"R1","from":"W","to":"E","arrive":10,"depart":15,"dwell":1,
+"arrive_early":0,"arrive_late":0,"depart_early":0,"depart_late":0,
+"platforms":["1","D"],"prefer":["1"],"off_price":100,"shift_price":10,"surcharges":[]}]}"#;
+
+/// A second train like the first, two minutes and one minute after it.
+const LATER: &str = r#""trains":[{"name":"R2","from":"W","to":"E","arrive":17,"depart":22,"dwell":1,
+"arrive_early":0,"arrive_late":0,"depart_early":0,"depart_late":0,
+"platforms":["1","D"],"prefer":["1"],"off_price":100,"shift_price":10,"surcharges":[]},"#;
+
+const MEETING: &str =
+    r#""trains":[{"name":"R2","from":"W","to":"E","arrive":16,"depart":21,"dwell":1,
+"arrive_early":0,"arrive_late":0,"depart_early":0,"depart_late":0,
+"platforms":["1","D"],"prefer":["1"],"off_price":100,"shift_price":10,"surcharges":[]},"#;
+
+/// The station with a further train in front of the first.
+fn with_train(alloc: Global, train: &str) -> Result<String, AllocError> {
+    match STATION.split_once("\"trains\":[") {
+        Some((before, after)) => format!(in alloc; "{before}{train}{after}"),
+        None => String::from_str(alloc, "no trains"),
+    }
+}
+
+fn case_of(alloc: Global, text: &str) -> Result<Case, Fail> {
+    match read_station(alloc, text.as_bytes()) {
+        Ok(station) => Ok(Case::new(alloc, station)?),
+        Err(_) => Err("no station")?,
+    }
+}
+
+fn plan_of(alloc: Global, choice: &[u16]) -> Result<Plan, AllocError> {
+    Ok(Plan {
+        choice: Sequence::from_vec(Vec::from_slice(alloc, choice)?),
+    })
+}
+
+/// The verdict, where the plan fits.
+fn judged(case: &Case, plan: &Plan) -> Option<Verdict> {
+    if plan.fits(case) {
+        Some(judge(case, plan))
+    } else {
+        None
+    }
+}
+
+fn costs(platforms: i64, patterns: i64, pairs: i64, total: i64) -> Option<Verdict> {
+    Some(Verdict::Cost(Costs {
+        platforms,
+        patterns,
+        pairs,
+        total,
+    }))
+}
+
+#[test]
+fn judges_plans(rt: HostRuntime) -> Result<(), Fail> {
+    let alloc = rt.alloc();
+    let alone = case_of(alloc, STATION)?;
+    assert_eq!(rt;
+        judged(&alone, &plan_of(alloc, &[0])?),
+        costs(1000, 0, 0, 1000)
+    );
+    assert_eq!(rt;
+        judged(&alone, &plan_of(alloc, &[1])?),
+        costs(100_000, 100, 0, 100_100)
+    );
+    assert_eq!(rt; judged(&alone, &plan_of(alloc, &[2])?), None);
+
+    // The platform is paid once, and held for two minutes after the departure.
+    let later = case_of(alloc, &with_train(alloc, LATER)?)?;
+    assert_eq!(rt;
+        judged(&later, &plan_of(alloc, &[0, 0])?),
+        costs(1000, 0, 0, 1000)
+    );
+    let meeting = case_of(alloc, &with_train(alloc, MEETING)?)?;
+    let clash = Clash {
+        first: 0,
+        second: 1,
+        why: Why::Platform,
+    };
+    assert_eq!(rt;
+        judged(&meeting, &plan_of(alloc, &[0, 0])?),
+        Some(Verdict::Conflict(clash))
+    );
+    Ok(())
+}
+
+fn refusal(alloc: Global, case: &Case, bytes: &[u8]) -> Option<PlanRefused> {
+    match read_plan(alloc, case, bytes) {
+        Err(PlanFault::Refused(refused)) => Some(refused),
+        _ => None,
+    }
+}
+
+#[test]
+fn refuses_the_first_record(rt: HostRuntime) -> Result<(), Fail> {
+    let alloc = rt.alloc();
+    let case = case_of(alloc, STATION)?;
+    let rows: [(&str, PlanKind, u64); 15] = [
+        ("tpp-plan 1 1\nchoice 0 2\n", PlanKind::Choice, 2),
+        ("tpp-plan 1 1\nend\n", PlanKind::Train, 2),
+        ("tpp-plan 1 1\nchoice 0 0\nend\n\n", PlanKind::Trail, 4),
+        ("", PlanKind::Short, 1),
+        ("tpp-plan 1 2\n", PlanKind::Train, 1),
+        ("tpp-plan 2 1\n", PlanKind::Record, 1),
+        ("choice 0 0\n", PlanKind::Record, 1),
+        ("tpp-plan 1 1\ntpp-plan 1 1\n", PlanKind::Record, 2),
+        ("tpp-plan 1 1\nchoice 1 0\n", PlanKind::Train, 2),
+        ("tpp-plan 1 1\nchoice 0 00\n", PlanKind::Record, 2),
+        ("tpp-plan 1 1\nchoice 0 4096\n", PlanKind::Record, 2),
+        ("tpp-plan 1 1\nchoice 0 0\nchoice 1 0\n", PlanKind::Train, 3),
+        (
+            // 80 bytes, which aren't ended.
+            "xxxxxxxxxxxxxxxxxxxxxxxxxxxxxxxxxxxxxxxxxxxxxxxxxxxxxxxxxxxxxxxxxxxxxxxxxxxxxxxx",
+            PlanKind::Short,
+            1,
+        ),
+        (
+            "xxxxxxxxxxxxxxxxxxxxxxxxxxxxxxxxxxxxxxxxxxxxxxxxxxxxxxxxxxxxxxxxxxxxxxxxxxxxxxxxx",
+            PlanKind::Record,
+            1,
+        ),
+        ("tpp-plan 1 1\nchoice 0 0\nend", PlanKind::Short, 3),
+    ];
+    for (text, kind, at) in rows {
+        assert_eq!(rt;
+            refusal(alloc, &case, text.as_bytes()),
+            Some(PlanRefused { kind, at })
+        );
+    }
+    Ok(())
+}
+
+#[test]
+fn reads_what_is_written(rt: HostRuntime) -> Result<(), Fail> {
+    let alloc = rt.alloc();
+    let case = case_of(alloc, STATION)?;
+    let text = write_plan(alloc, &plan_of(alloc, &[0])?)?;
+    assert_eq!(rt;
+        text.as_slice(),
+        b"tpp-plan 1 1\nchoice 0 0\nend\n".as_slice()
+    );
+    let plan = read_plan(alloc, &case, &text)?;
+    assert_eq!(rt; plan.choice.as_slice(), [0].as_slice());
+
+    // A front of the text is refused at the record in which it ends.
+    let mut at = 1;
+    for (end, byte) in text.iter().enumerate() {
+        assert_eq!(rt;
+            refusal(alloc, &case, &text[..end]),
+            Some(PlanRefused {
+                kind: PlanKind::Short,
+                at
+            })
+        );
+        if *byte == b'\n' {
+            at = at.saturating_add(1);
+        }
+    }
+    Ok(())
+}

@@ -1,0 +1,11 @@
+pub mod Answers
+pub mod Command
+pub mod Given
+pub mod Instance
+pub mod Outcome
+pub mod Reading
+pub mod Report
+pub mod Run
+pub mod Solve
+pub mod Statuses
+pub mod View

@@ -1,0 +1,10 @@
+use Rattle.station_reader.specs.Shown.{record_of}
+use Rattle.station_reader.proofs.Ordered.{lists_ascend}
+use Rattle.station_reader.proofs.Ruled.{lists_allowed}
+use Rattle.station_reader.proofs.rules.lists_allowed_patterns.Goals as goal
+
+pub returns : goal.returns
+returns c = record {
+  allowed = lists_allowed (record_of c.args.station.now) c.args.station.now.kept;
+  ascending = lists_ascend (record_of c.args.station.now);
+}

@@ -1,0 +1,16 @@
+pub mod Reach
+pub mod Raise
+pub mod Ways
+pub mod Shift
+pub mod Plans
+pub mod Writes
+pub mod Places
+pub mod Merge
+pub mod Duality
+pub mod Signed
+pub mod Least
+pub mod Tidy
+pub mod Keeping
+pub mod Whole
+pub mod Faults
+pub mod Totals
