@@ -16,24 +16,6 @@ const STATION: &str = r#"{"format":"tpp-station","version":1,"threshold":2,"conf
 "arrive_early":0,"arrive_late":0,"depart_early":0,"depart_late":0,
 "platforms":["1","D"],"prefer":["1"],"off_price":100,"shift_price":10,"surcharges":[]}]}"#;
 
-/// A second train like the first, two minutes and one minute after it.
-const LATER: &str = r#""trains":[{"name":"R2","from":"W","to":"E","arrive":17,"depart":22,"dwell":1,
-"arrive_early":0,"arrive_late":0,"depart_early":0,"depart_late":0,
-"platforms":["1","D"],"prefer":["1"],"off_price":100,"shift_price":10,"surcharges":[]},"#;
-
-const MEETING: &str =
-    r#""trains":[{"name":"R2","from":"W","to":"E","arrive":16,"depart":21,"dwell":1,
-"arrive_early":0,"arrive_late":0,"depart_early":0,"depart_late":0,
-"platforms":["1","D"],"prefer":["1"],"off_price":100,"shift_price":10,"surcharges":[]},"#;
-
-/// The station with a further train in front of the first.
-fn with_train(alloc: Global, train: &str) -> Result<String, AllocError> {
-    match STATION.split_once("\"trains\":[") {
-        Some((before, after)) => format!(in alloc; "{before}{train}{after}"),
-        None => String::from_str(alloc, "no trains"),
-    }
-}
-
 fn case_of(alloc: Global, text: &str) -> Result<Case, Fail> {
     match read_station(alloc, text.as_bytes()) {
         Ok(station) => Ok(Case::new(alloc, station)?),
@@ -66,35 +48,11 @@ fn costs(platforms: i64, patterns: i64, pairs: i64, total: i64) -> Option<Verdic
 }
 
 #[test]
-fn judges_plans(rt: HostRuntime) -> Result<(), Fail> {
+fn judges_a_plan(rt: HostRuntime) -> Result<(), Fail> {
     let alloc = rt.alloc();
-    let alone = case_of(alloc, STATION)?;
-    assert_eq!(rt;
-        judged(&alone, &plan_of(alloc, &[0])?),
-        costs(1000, 0, 0, 1000)
-    );
-    assert_eq!(rt;
-        judged(&alone, &plan_of(alloc, &[1])?),
-        costs(100_000, 100, 0, 100_100)
-    );
-    assert_eq!(rt; judged(&alone, &plan_of(alloc, &[2])?), None);
-
-    // The platform is paid once, and held for two minutes after the departure.
-    let later = case_of(alloc, &with_train(alloc, LATER)?)?;
-    assert_eq!(rt;
-        judged(&later, &plan_of(alloc, &[0, 0])?),
-        costs(1000, 0, 0, 1000)
-    );
-    let meeting = case_of(alloc, &with_train(alloc, MEETING)?)?;
-    let clash = Clash {
-        first: 0,
-        second: 1,
-        why: Why::Platform,
-    };
-    assert_eq!(rt;
-        judged(&meeting, &plan_of(alloc, &[0, 0])?),
-        Some(Verdict::Conflict(clash))
-    );
+    let case = case_of(alloc, STATION)?;
+    let plan = plan_of(alloc, &[1])?;
+    assert_eq!(rt; judged(&case, &plan), costs(100_000, 100, 0, 100_100));
     Ok(())
 }
 
@@ -109,31 +67,12 @@ fn refusal(alloc: Global, case: &Case, bytes: &[u8]) -> Option<PlanRefused> {
 fn refuses_the_first_record(rt: HostRuntime) -> Result<(), Fail> {
     let alloc = rt.alloc();
     let case = case_of(alloc, STATION)?;
-    let rows: [(&str, PlanKind, u64); 15] = [
+    let rows: [(&str, PlanKind, u64); 5] = [
         ("tpp-plan 1 1\nchoice 0 2\n", PlanKind::Choice, 2),
         ("tpp-plan 1 1\nend\n", PlanKind::Train, 2),
         ("tpp-plan 1 1\nchoice 0 0\nend\n\n", PlanKind::Trail, 4),
         ("", PlanKind::Short, 1),
-        ("tpp-plan 1 2\n", PlanKind::Train, 1),
         ("tpp-plan 2 1\n", PlanKind::Record, 1),
-        ("choice 0 0\n", PlanKind::Record, 1),
-        ("tpp-plan 1 1\ntpp-plan 1 1\n", PlanKind::Record, 2),
-        ("tpp-plan 1 1\nchoice 1 0\n", PlanKind::Train, 2),
-        ("tpp-plan 1 1\nchoice 0 00\n", PlanKind::Record, 2),
-        ("tpp-plan 1 1\nchoice 0 4096\n", PlanKind::Record, 2),
-        ("tpp-plan 1 1\nchoice 0 0\nchoice 1 0\n", PlanKind::Train, 3),
-        (
-            // 80 bytes, which aren't ended.
-            "xxxxxxxxxxxxxxxxxxxxxxxxxxxxxxxxxxxxxxxxxxxxxxxxxxxxxxxxxxxxxxxxxxxxxxxxxxxxxxxx",
-            PlanKind::Short,
-            1,
-        ),
-        (
-            "xxxxxxxxxxxxxxxxxxxxxxxxxxxxxxxxxxxxxxxxxxxxxxxxxxxxxxxxxxxxxxxxxxxxxxxxxxxxxxxxx",
-            PlanKind::Record,
-            1,
-        ),
-        ("tpp-plan 1 1\nchoice 0 0\nend", PlanKind::Short, 3),
     ];
     for (text, kind, at) in rows {
         assert_eq!(rt;
@@ -144,31 +83,25 @@ fn refuses_the_first_record(rt: HostRuntime) -> Result<(), Fail> {
     Ok(())
 }
 
+/// The text of a plan that fits, and of another nothing.
+fn written(alloc: Global, case: &Case, plan: &Plan) -> Result<Vec<u8>, AllocError> {
+    if plan.fits(case) {
+        write_plan(alloc, plan)
+    } else {
+        Ok(Vec::new(alloc))
+    }
+}
+
 #[test]
 fn reads_what_is_written(rt: HostRuntime) -> Result<(), Fail> {
     let alloc = rt.alloc();
     let case = case_of(alloc, STATION)?;
-    let text = write_plan(alloc, &plan_of(alloc, &[0])?)?;
+    let text = written(alloc, &case, &plan_of(alloc, &[0])?)?;
     assert_eq!(rt;
         text.as_slice(),
         b"tpp-plan 1 1\nchoice 0 0\nend\n".as_slice()
     );
     let plan = read_plan(alloc, &case, &text)?;
     assert_eq!(rt; plan.choice.as_slice(), [0].as_slice());
-
-    // A front of the text is refused at the record in which it ends.
-    let mut at = 1;
-    for (end, byte) in text.iter().enumerate() {
-        assert_eq!(rt;
-            refusal(alloc, &case, &text[..end]),
-            Some(PlanRefused {
-                kind: PlanKind::Short,
-                at
-            })
-        );
-        if *byte == b'\n' {
-            at = at.saturating_add(1);
-        }
-    }
     Ok(())
 }
