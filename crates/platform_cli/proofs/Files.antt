@@ -1,5 +1,5 @@
 -- Files that are written one after another.
-use Rattle.std.proofs.Common.{◌≡◌, ◌≢◌, ◌⊎◌, inl, inr, ℕ, suc, ◌+◌, ◌≤◌, ◌<◌, Bool, true, false, cond, List, [], ◌∷◌, ◌++◌, length, take, get_or, fold, MatchOption, None, Some, refl, sym, ◌∙◌, ap, subst, arith, length-take}
+use Rattle.std.proofs.Common.{◌≡◌, ◌≢◌, ◌⊎◌, inl, inr, ℕ, suc, ◌+◌, ◌≤◌, ◌<◌, Bool, true, false, cond, List, [], ◌∷◌, ◌++◌, length, take, get_or, fold, MatchOption, None, Some, Result, refl, sym, ◌∙◌, ap, subst, arith, length-take}
 use Rattle.std.specs.declared.option.Option.{Option}
 use Rattle.std.specs.Prelude.{Contains}
 use Rattle.std.specs.Str.{bytes_eq}
@@ -9,7 +9,7 @@ use Rattle.std.proofs.lemmas.Option.{same_Some}
 use Rattle.std.proofs.lemmas.List.Sums.{fold_push}
 use Rattle.shelf.specs.declared.fault.ShelfFault.{ShelfFault}
 use Rattle.shelf.specs.declared.fault.ShelfFault.TheVariants.{Failed, Memory}
-use Rattle.shelf.specs.Outside.{Same, SameElsewhere}
+use Rattle.shelf.specs.Outside.{Same, SameElsewhere, HasCause}
 use Rattle.platform_cli.specs.Given.{NewFile}
 use Rattle.platform_cli.specs.Instance.{Held}
 use Rattle.platform_cli.specs.Run.{Faults, IsNamed, Now, last_bytes, HoldsFiles, IsOldOrWhole}
@@ -115,3 +115,7 @@ later_more name before between now earlier here others other = elim (same_or_not
   | inl at ↦ subst (λ (n : List ℕ). before n ≤ now n) at.1 (omega (arith, earlier name, here))
   | inr at ↦ omega (arith, earlier other, others other (λ same. at.1 (sym same)))
 ]
+
+-- no count of faults falls by a call
+pub later_all : {T : Type 0} (name : List ℕ) (before now : Faults) (result : Result T ShelfFault) → HasCause name before now result → (other : List ℕ) → before other ≤ now other
+later_all name before now result cause = later_more name before before now (λ other. omega arith) cause.later cause.others

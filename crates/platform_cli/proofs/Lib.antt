@@ -2,5 +2,11 @@ pub mod Pieces
 pub mod Readings
 pub mod Files
 pub mod Puts
+pub mod Answering
 pub mod Solving
+pub mod Fronts
+pub mod Verdicts
 pub mod Outcomes
+pub mod PlanFiles
+pub mod Ends
+pub mod Exactness

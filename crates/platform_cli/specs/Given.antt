@@ -1,5 +1,5 @@
 -- What a run gives.
-use Rattle.std.specs.Prelude.{ℕ, List}
+use Rattle.std.specs.Prelude.{ℕ, List, []}
 
 -- a file that a run writes
 pub record NewFile : Type 0 where
@@ -11,3 +11,7 @@ pub record Outcome : Type 0 where
   pub code : ℕ
   pub text : List ℕ
   pub files : List NewFile
+
+-- what writes no file
+abbrev pub text_outcome : ℕ → List ℕ → Outcome
+text_outcome code text = record { code = code; text = text; files = [] }

@@ -2,6 +2,8 @@
 use Rattle.std.specs.Prelude.{◌≡◌, ℕ, Bool, List, take, IfSome, IsSome, IsTrue}
 use Rattle.std.specs.declared.option.Option.{Option}
 use Rattle.station_reader.specs.Reading.{Reading, reading}
+use Rattle.pair_prices.specs.Case.{CaseRecord}
+use Rattle.plan_cost.specs.PlanReading.{PlanReading, plan_reading}
 
 -- what each name holds, where the shelf tells
 abbrev pub Held : Type 0
@@ -19,3 +21,11 @@ pub record IsInstance (tells : Bool) (held : Held) (name : List ℕ) (is : Readi
   pub told : IsTrue tells → IsSome (held name)
   pub bytes : List ℕ
   pub read : reading bytes ≡ is
+
+-- What the shelf holds under the name, where it tells, is read as this: a plan of the case, or the first refusal with its
+-- record. The bytes that were taken are read so too.
+pub record IsPlan (tells : Bool) (held : Held) (name : List ℕ) (c : CaseRecord) (is : PlanReading) : Type 0 where
+  pub whole : IfSome (held name) (λ whole. plan_reading c whole ≡ is)
+  pub told : IsTrue tells → IsSome (held name)
+  pub bytes : List ℕ
+  pub read : plan_reading c bytes ≡ is

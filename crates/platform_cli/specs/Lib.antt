@@ -1,7 +1,9 @@
 pub mod Answers
-pub mod Command
+pub mod Asked
+pub mod Exact
 pub mod Given
 pub mod Instance
+pub mod Judge
 pub mod Outcome
 pub mod Reading
 pub mod Report

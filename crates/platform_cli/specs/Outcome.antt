@@ -1,17 +1,35 @@
 -- What the commands give.
-use Rattle.std.specs.Prelude.{◌≡◌, Bool, [], None, Some}
-use Rattle.std.specs.declared.option.Option.{Option}
-use Rattle.platform_cli.specs.Command.{Command, solve}
+use Rattle.std.specs.Prelude.{Bool, Option}
+use Rattle.command_words.specs.Command.{CommandView}
+use Rattle.platform_cli.specs.Answers.{IsUsage, IsWindow, IsUnread, IsWide, IsOptimal, IsNoPlan, IsListed, IsPlanRefused, IsConflict, IsReported}
 use Rattle.platform_cli.specs.Given.{Outcome}
 use Rattle.platform_cli.specs.Instance.{Held}
-use Rattle.platform_cli.specs.Report.{usage_text}
-use Rattle.platform_cli.specs.Solve.{IsSolveOutcome}
 
--- what words that are no command give
-abbrev pub usage : Outcome
-usage = record { code = 2; text = usage_text; files = [] }
+-- the answers
+pub data Answer : Type 0 where
+  usage : Answer
+  window : Answer
+  unread : Answer
+  wide : Answer
+  optimal : Answer
+  no_plan : Answer
+  listed : Answer
+  refused_plan : Answer
+  conflict : Answer
+  reported : Answer
 
--- What a command gives is for each command a relation of its own.
-abbrev pub IsOutcome : Bool → Held → Option Command → Outcome → Type 0
-IsOutcome tells held None outcome = outcome ≡ usage
-IsOutcome tells held (Some (solve words)) outcome = IsSolveOutcome tells held words outcome
+abbrev pub IsAnswer : Answer → Bool → Held → Option CommandView → Outcome → Type 0
+IsAnswer usage tells held command outcome = IsUsage command outcome
+IsAnswer window tells held command outcome = IsWindow command outcome
+IsAnswer unread tells held command outcome = IsUnread tells held command outcome
+IsAnswer wide tells held command outcome = IsWide tells held command outcome
+IsAnswer optimal tells held command outcome = IsOptimal tells held command outcome
+IsAnswer no_plan tells held command outcome = IsNoPlan tells held command outcome
+IsAnswer listed tells held command outcome = IsListed tells held command outcome
+IsAnswer refused_plan tells held command outcome = IsPlanRefused tells held command outcome
+IsAnswer conflict tells held command outcome = IsConflict tells held command outcome
+IsAnswer reported tells held command outcome = IsReported tells held command outcome
+
+-- A command gives one of the answers.
+abbrev pub IsOutcome : Bool → Held → Option CommandView → Outcome → Type 0
+IsOutcome tells held command outcome = (answer : Answer) × IsAnswer answer tells held command outcome

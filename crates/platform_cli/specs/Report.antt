@@ -4,13 +4,13 @@ use Rattle.station_reader.specs.declared.refusal.RefusedKind.{RefusedKind}
 use Rattle.station_reader.specs.declared.refusal.RefusedKind.TheVariants.{Long, NotJson, Version, Shape, Count, Name, Double, Unknown, Range, Patterns}
 use Rattle.pair_prices.specs.Case.{CaseRecord}
 use Rattle.pair_prices.specs.Plan.{cost}
-use Rattle.diagram.specs.Text.{timetable_text}
+use Rattle.diagram.specs.Text.{timetable_text, platform_text, path_text}
+use Rattle.reports.specs.Text.{cost_text}
+use Rattle.platform_cli.specs.declared.asked.Report.{Report}
+use Rattle.platform_cli.specs.declared.asked.Report.TheVariants.{Cost, Platforms, Paths}
 
 abbrev pub line : List ℕ → List ℕ
 line text = text ++ 10 ∷ []
-
-abbrev pub usage_text : List ℕ
-usage_text = line (codes "Usage") ++ line (codes "solve INSTANCE")
 
 -- the word, the plan's cost, and a line for each train
 abbrev pub optimal_text : CaseRecord → List ℕ → List ℕ
@@ -41,3 +41,9 @@ refused_text kind place = refused_line (class_text kind) place
 
 abbrev pub wide_text : List ℕ
 wide_text = refused_line (codes "11 Wide") (codes "/trains")
+
+-- what is reported of a feasible plan: its costs, or a chart
+abbrev pub report_text : Report → CaseRecord → List ℕ → List ℕ
+report_text Cost c plan = cost_text c plan
+report_text (Platforms window) c plan = platform_text c plan window.from window.to
+report_text (Paths window) c plan = path_text c plan window.from window.to

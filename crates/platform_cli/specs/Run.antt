@@ -2,11 +2,16 @@
 use Rattle.std.specs.Prelude.{◌≡◌, ◌≢◌, ◌⊎◌, ℕ, ◌<◌, Bool, List, fold, map, Contains, if◌then◌else◌, None, Some, IfSome, IsSome, IsTrue, MatchOption}
 use Rattle.std.specs.declared.option.Option.{Option}
 use Rattle.std.specs.Str.{bytes_eq}
-use Rattle.std.specs.Io.KnownBytes.{Appends}
-use Rattle.shelf.specs.Outside.{AppendsPrefix}
-use Rattle.platform_cli.specs.Command.{Command, solve}
+use Rattle.std.specs.Io.KnownBytes.{Appends, Keeps}
+use Rattle.shelf.specs.Outside.{AppendsPrefix, Same}
+use Rattle.command_words.specs.Command.{CommandView}
+use Rattle.station_reader.specs.Allowed.{StationRecord}
+use Rattle.station_reader.specs.Reading.{taken}
+use Rattle.pair_prices.specs.Case.{rule_case}
+use Rattle.plan_cost.specs.PlanText.{plan_text}
+use Rattle.all_plans.specs.Least.{IsLeastPlan}
 use Rattle.platform_cli.specs.Given.{NewFile, Outcome}
-use Rattle.platform_cli.specs.Instance.{Held}
+use Rattle.platform_cli.specs.Instance.{Held, IsInstance}
 use Rattle.platform_cli.specs.Outcome.{IsOutcome}
 
 -- how often a call on each name has failed
@@ -43,27 +48,53 @@ IsOldOrWhole tells files old new before now name =
     ⊎ (((bytes : List ℕ) × Contains files (record { name = name; bytes = bytes }) × Now tells (new name) bytes)
     ⊎ (IsNamed files name × (before name < now name)))
 
--- the names of the files that a command reads
-abbrev pub Reads : Option Command → List ℕ → Type 0
-Reads None name = ⊥
-Reads (Some (solve words)) name = words.instance ≡ name
+-- an outcome of this kind was given whole: its text was put, and its files were written
+pub record WasGiven (Is : Outcome → Type 0) (tells : Bool) (old new : Held) (before now : Option (List ℕ)) : Type 0 where
+  pub outcome : Outcome
+  pub is : Is outcome
+  pub text : Appends before now outcome.text
+  pub files : HoldsFiles tells outcome.files old new
 
--- the names of the files that a command writes
-abbrev pub Writes : Option Command → List ℕ → Type 0
-Writes None name = ⊥
-Writes (Some (solve words)) name = ⊥
-
--- the outcome was given whole
-pub record IsDone (tells : Bool) (command : Option Command) (status : ℕ) (old new : Held) (before now : Option (List ℕ)) : Type 0 where
+-- an outcome of the command was given whole, and the status is its
+pub record IsDone (tells : Bool) (command : Option CommandView) (status : ℕ) (old new : Held) (before now : Option (List ℕ)) : Type 0 where
   pub outcome : Outcome
   pub is_outcome : IsOutcome tells old command outcome
   pub code : status ≡ outcome.code
   pub text : Appends before now outcome.text
   pub files : HoldsFiles tells outcome.files old new
 
--- a front of an outcome was given
-pub record IsCut (tells : Bool) (command : Option Command) (old new : Held) (faults_before faults_now : Faults) (before now : Option (List ℕ)) : Type 0 where
+-- a front of an outcome of the command was given
+pub record IsCut (tells : Bool) (command : Option CommandView) (old new : Held) (faults_before faults_now : Faults) (before now : Option (List ℕ)) : Type 0 where
   pub outcome : Outcome
   pub is_outcome : IsOutcome tells old command outcome
   pub text : AppendsPrefix before now outcome.text
   pub files : (name : List ℕ) → IsOldOrWhole tells outcome.files old new faults_before faults_now name
+
+-- nothing was given
+pub record IsNothing (old new : Held) (before now : Option (List ℕ)) : Type 0 where
+  pub held : Same old new
+  pub put : Keeps before now
+
+-- a status of a write fault, or of want of memory
+abbrev pub IsCutOff : ℕ → Type 0
+IsCutOff status = (status ≡ 7) ⊎ (status ≡ 8)
+
+-- an outcome was given whole, or a front of it, or nothing
+pub record IsEnded (tells : Bool) (command : Option CommandView) (status : ℕ) (old new : Held) (faults_before faults_now : Faults) (before now : Option (List ℕ)) : Type 0 where
+  pub way :
+      IsDone tells command status old new before now
+      ⊎ ((IsCutOff status × IsCut tells command old new faults_before faults_now before now)
+      ⊎ (((status ≡ 6) ⊎ IsCutOff status) × IsNothing old new before now))
+
+-- a name holds the text of a plan of least cost of the instance, where the shelf tells
+pub record HoldsLeast (tells : Bool) (held : Held) (now : Option (List ℕ)) (instance : List ℕ) : Type 0 where
+  pub station : StationRecord
+  pub read : IsInstance tells held instance (taken station)
+  pub plan : List ℕ
+  pub least : IsLeastPlan (rule_case station) plan
+  pub holds : Now tells now (plan_text plan)
+
+-- the plan's file holds what it held, or the text of a plan of least cost, or a write of it has failed
+abbrev pub IsPlanFile : Bool → Held → Held → Faults → Faults → List ℕ → List ℕ → Type 0
+IsPlanFile tells old new before now instance name =
+    (new name ≡ old name) ⊎ (HoldsLeast tells old (new name) instance ⊎ (before name < now name))

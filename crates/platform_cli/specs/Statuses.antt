@@ -11,7 +11,10 @@ abbrev pub ending_code : Ending → ℕ
 ending_code endings.Done = 0
 ending_code endings.Usage = 2
 ending_code endings.InstanceRefused = 3
+ending_code endings.PlanRefused = 4
+ending_code endings.Conflict = 9
 ending_code endings.NoPlan = 10
+ending_code endings.Window = 12
 
 abbrev pub stop_code : Stop → ℕ
 stop_code stops.ReadFault = 6

@@ -1,13 +1,16 @@
 // The instance of a command: its bytes are read whole, and then they are read as a station.
-ghost use Rattle.std.specs.Prelude.{◌≡◌, ◌<◌, List, ℕ, IfOk, IsErrOf};
+ghost use Rattle.std.specs.Prelude.{◌≡◌, ◌<◌, ◌≤◌, List, ℕ, IfOk, IsErrOf};
 ghost use Rattle.shelf.specs.Outside.{Same};
 ghost use Rattle.station_reader.specs.Reading.{reading};
+ghost use Rattle.platform_cli.specs.Given.{text_outcome};
 ghost use Rattle.platform_cli.specs.Instance.{IsInstance};
+ghost use Rattle.platform_cli.specs.Report.{refused_text};
 ghost use Rattle.platform_cli.specs.Statuses.{read_stop_of};
-ghost use Rattle.platform_cli.specs.View.{reading_of};
+ghost use Rattle.platform_cli.specs.View.{outcome_of, reading_of};
 
-use crate::output::Stop;
+use crate::output::{Ending, Output, Stop};
 use crate::reading::read_whole;
+use crate::report::refused_text;
 use shelf::{Shelf, ShelfFault};
 use station_reader::{Refused, Station, StationFault, read_station};
 use std::alloc::{AllocError, Global};
@@ -31,6 +34,7 @@ pub(crate) fn read_instance<S: Shelf>(
     ensures read { IfOk result (λ instance. IsInstance S.tells (S.held shelf.old) name.now (reading_of instance)) }
     ensures held { Same (S.held shelf.old) (S.held shelf.new) }
     ensures cause { IsErrOf result Stop.ReadFault → S.read_faults shelf.old name.now < S.read_faults shelf.new name.now }
+    ensures later { (other : List ℕ) → S.read_faults shelf.old other ≤ S.read_faults shelf.new other }
     ensures no_write { IsErrOf result Stop.WriteFault → ⊥ }
     ensures writes { Same (S.write_faults shelf.old) (S.write_faults shelf.new) }
 {
@@ -40,7 +44,8 @@ pub(crate) fn read_instance<S: Shelf>(
     }
 }
 
-fn read_stop_of(fault: ShelfFault) -> Stop
+/// The stop for a fault of a read.
+pub(crate) fn read_stop_of(fault: ShelfFault) -> Stop
     ensures { result ≡ read_stop_of fault }
 {
     match fault {
@@ -57,4 +62,12 @@ fn instance_of(alloc: Global, bytes: &[u8]) -> Result<Instance, AllocError>
         Err(StationFault::Refused(refused)) => Ok(Instance::Refused(refused)),
         Err(StationFault::Memory) => Err(AllocError),
     }
+}
+
+/// The output for a refused instance.
+pub(crate) fn refused_output(alloc: Global, refused: &Refused) -> Result<Output, AllocError>
+    ensures { IfOk result (λ output. outcome_of output ≡ text_outcome 3 (refused_text refused.now.kind refused.now.place)) }
+{
+    let text = refused_text(alloc, refused)?;
+    Ok(Output::of_text(alloc, Ending::InstanceRefused, text))
 }

@@ -1,10 +1,13 @@
 //! The train platforming planner for one station: runs the command that the words name.
 #![tactic(auto)]
 
-mod command;
+mod asked;
 mod delivery;
 mod instance;
+mod judging;
+mod listing;
 mod output;
+mod plan_file;
 mod reading;
 mod report;
 mod solve;

@@ -1,9 +1,11 @@
 // What a run gives.
-ghost use Rattle.std.specs.Prelude.{◌≡◌};
+ghost use Rattle.std.specs.Prelude.{◌≡◌, []};
+ghost use Rattle.platform_cli.specs.Given.{text_outcome};
 ghost use Rattle.platform_cli.specs.Statuses.{ending_code};
+ghost use Rattle.platform_cli.specs.View.{outcome_of};
 ghost use Rattle.platform_cli.specs.declared.output.Stop.TheVariants.{Memory};
 
-use std::alloc::AllocError;
+use std::alloc::{AllocError, Global};
 
 /// A file that a run writes.
 #[derive(Drop)]
@@ -18,7 +20,10 @@ pub(crate) enum Ending {
     Done,
     Usage,
     InstanceRefused,
+    PlanRefused,
+    Conflict,
     NoPlan,
+    Window,
 }
 
 impl Ending {
@@ -29,7 +34,10 @@ impl Ending {
             Ending::Done => 0,
             Ending::Usage => 2,
             Ending::InstanceRefused => 3,
+            Ending::PlanRefused => 4,
+            Ending::Conflict => 9,
             Ending::NoPlan => 10,
+            Ending::Window => 12,
         }
     }
 }
@@ -40,6 +48,19 @@ pub(crate) struct Output {
     pub(crate) ending: Ending,
     pub(crate) text: Vec<u8>,
     pub(crate) files: Vec<OutputFile>,
+}
+
+impl Output {
+    /// An output that writes no file.
+    pub(crate) fn of_text(alloc: Global, ending: Ending, text: Vec<u8>) -> Output
+        ensures { outcome_of result ≡ text_outcome (ending_code ending) text.items }
+    {
+        Output {
+            ending,
+            text,
+            files: Vec::new(alloc),
+        }
+    }
 }
 
 /// Why a run ended before its work was done or its output was whole.

@@ -1,19 +1,13 @@
 // The texts that runs put.
 ghost use Rattle.std.specs.Prelude.{◌≡◌, IfOk, pos};
 ghost use Rattle.pair_prices.specs.Plan.{IsFeasible, cost};
-ghost use Rattle.platform_cli.specs.Report.{usage_text, optimal_text, no_plan_text, refused_line, refused_text, class_text, wide_text};
+ghost use Rattle.platform_cli.specs.Report.{optimal_text, no_plan_text, refused_line, refused_text, class_text, wide_text};
 
 use all_plans::Best;
 use diagram::timetable;
 use pair_prices::Case;
 use station_reader::{Refused, RefusedKind};
 use std::alloc::{AllocError, Global};
-
-pub(crate) fn usage_text(alloc: Global) -> Result<Vec<u8>, AllocError>
-    ensures { IfOk result (λ text. text.items ≡ usage_text) }
-{
-    Vec::from_slice(alloc, b"Usage\nsolve INSTANCE\n")
-}
 
 /// The plan of least cost: its cost, and a line for each train.
 pub(crate) fn optimal_text(alloc: Global, case: &Case, best: &Best) -> Result<Vec<u8>, AllocError>

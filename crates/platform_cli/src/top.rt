@@ -1,12 +1,14 @@
 // The top call.
-ghost use Rattle.std.specs.Prelude.{◌≡◌, ◌⊎◌, ◌<◌, ◌≤◌, ◌≢◌, List, ℕ, map, string_bytes, IsNone, Some};
-ghost use Rattle.std.specs.Io.KnownBytes.{Appends, Keeps};
+ghost use Rattle.std.specs.Prelude.{◌≡◌, ◌⊎◌, ◌<◌, ◌≤◌, ◌≢◌, List, ℕ, map, string_bytes, Contains, Option, None, Some};
+ghost use Rattle.std.specs.Io.KnownBytes.{Keeps};
+ghost use Rattle.command_words.specs.Command.{command_of, patterns, solve};
 ghost use Rattle.shelf.specs.Outside.{Same, Rose};
 ghost use Rattle.station_reader.specs.Reading.{reading};
-ghost use Rattle.platform_cli.specs.Answers.{IsOptimal, IsNoPlan, IsInstanceRefused, NoCallFailed, EndsAs};
-ghost use Rattle.platform_cli.specs.Command.{SolveWords, solve, command_of};
-ghost use Rattle.platform_cli.specs.Report.{usage_text};
-ghost use Rattle.platform_cli.specs.Run.{IsFinished, IsDone, IsCut, Reads, Writes};
+ghost use Rattle.platform_cli.specs.declared.asked.Window.{Window};
+ghost use Rattle.platform_cli.specs.Answers.{IsUsage, IsWindow, IsUnread, IsWide, IsOptimal, IsNoPlan, IsListed, IsPlanRefused, IsConflict, IsReported};
+ghost use Rattle.platform_cli.specs.Asked.{AskedView, Reads, Writes, asked_of, bad_window_of};
+ghost use Rattle.platform_cli.specs.Exact.{NoCallFailed, SolveEnds, ListingEnds, ReportEnds, statuses};
+ghost use Rattle.platform_cli.specs.Run.{IsFinished, IsEnded, IsDone, IsCut, IsCutOff, IsNothing, IsPlanFile, WasGiven};
 ghost use Rattle.platform_cli.specs.Statuses.{stop_code};
 
 use crate::delivery::deliver;
@@ -17,47 +19,82 @@ use std::alloc::Global;
 
 /// How a run ended (docs/COMMANDS.md):
 ///
-/// - 0: the work was done. Of `solve`: a feasible plan of least cost was found and reported.
+/// - 0: the work was done, and the report was put. Of `solve`: a feasible plan of least cost was found.
 /// - 2: the words are no command. The output is the usage text.
 /// - 3: the instance was refused. The output is one line with the class and the place of the refusal.
+/// - 4: the plan was refused. The output is one line with the kind and the record of the refusal.
 /// - 6: an input file couldn't be read. There is no output.
-/// - 7: the output couldn't be written. A front of it may have been.
+/// - 7: the plan's file or the output couldn't be written. A front of the output may have been.
 /// - 8: memory ran out. A front of the output may have been written.
+/// - 9: the plan isn't feasible. The output is one line with the first conflict.
 /// - 10: no plan is feasible.
+/// - 12: no chart has the minutes that were asked for. The output is one line with them.
 #[derive(Clone, Copy, Debug, PartialEq, Eq)]
 pub struct Status {
     pub code: u8,
 }
 
 /// Runs the command that the words name, over the files of a shelf and an output. The words leave out the
-/// program's own name. The files are read first, then the work is done, and then the report is put line by
-/// line; the first step that fails ends the run.
+/// program's own name. A chart's minutes are tested first. Then the files are read, then the work is done, then the
+/// plan's file is written where one was asked for, and then the report is put line by line; the first step that
+/// fails ends the run.
 ///
-/// docs/FORMATS.md says how an instance is read, why one is refused, and what the lines of a report are.
+/// docs/FORMATS.md says how instances and plans are read, why they are refused, and what the lines of a report are.
 /// docs/RULES.md says which plans are feasible and what they cost.
 pub fn run<S: Shelf, K: Sink>(alloc: Global, words: &[String], shelf: &mut S, out: &mut K) -> Status
     // Status 0 of `solve`: what the shelf holds under INSTANCE is a station, the report names a feasible plan of it
-    // at the printed cost, and no feasible plan costs less.
-    ensures optimal { (asked : SolveWords) → command_of (map string_bytes words.now) ≡ Some (solve asked) → result.code ≡ 0
-        → IsOptimal S.tells (S.held shelf.old) asked.instance (K.written out.old) (K.written out.new) }
+    // at the printed cost, no feasible plan costs less, and the plan's FILE has its text.
+    ensures optimal { (instance : List ℕ) (file : Option (List ℕ)) → command_of (map string_bytes words.now) ≡ Some (solve instance file) → result.code ≡ 0
+        → WasGiven (IsOptimal S.tells (S.held shelf.old) (command_of (map string_bytes words.now))) S.tells
+        (S.held shelf.old) (S.held shelf.new) (K.written out.old) (K.written out.new) }
 
-    // Status 10 of `solve`: it is a station without a feasible plan, and the report says so.
-    ensures no_plan { (asked : SolveWords) → command_of (map string_bytes words.now) ≡ Some (solve asked) → result.code ≡ 10
-        → IsNoPlan S.tells (S.held shelf.old) asked.instance (K.written out.old) (K.written out.new) }
+    // Status 10: it is `solve`, of a station without a feasible plan, and the report says so.
+    ensures no_plan { result.code ≡ 10 → WasGiven (IsNoPlan S.tells (S.held shelf.old) (command_of (map string_bytes words.now))) S.tells
+        (S.held shelf.old) (S.held shelf.new) (K.written out.old) (K.written out.new) }
 
-    // Status 3 of `solve`: it is read as the printed refusal at the printed place, or it is a station with more than
-    // 10,000 lists of pattern numbers.
-    ensures instance_refused { (asked : SolveWords) → command_of (map string_bytes words.now) ≡ Some (solve asked) → result.code ≡ 3
-        → IsInstanceRefused S.tells (S.held shelf.old) asked.instance (K.written out.old) (K.written out.new) }
+    // Status 0 of `patterns`: what the shelf holds under INSTANCE is a station, and its patterns are listed.
+    ensures listed { (instance : List ℕ) → command_of (map string_bytes words.now) ≡ Some (patterns instance) → result.code ≡ 0
+        → WasGiven (IsListed S.tells (S.held shelf.old) (command_of (map string_bytes words.now))) S.tells
+        (S.held shelf.old) (S.held shelf.new) (K.written out.old) (K.written out.new) }
+
+    // Status 0 of `cost`, `platforms` and `paths`: the plan's text is a plan of the station, it is feasible, and the
+    // report is its costs or its chart.
+    ensures reported { (asked : AskedView) → asked_of (command_of (map string_bytes words.now)) ≡ Some asked → result.code ≡ 0
+        → WasGiven (IsReported S.tells (S.held shelf.old) (command_of (map string_bytes words.now))) S.tells
+        (S.held shelf.old) (S.held shelf.new) (K.written out.old) (K.written out.new) }
+
+    // Status 3: the instance is read as the printed refusal at the printed place, or, of `solve`, it is a station with
+    // more than 10,000 lists of pattern numbers.
+    ensures instance_refused { result.code ≡ 3 →
+        WasGiven (IsUnread S.tells (S.held shelf.old) (command_of (map string_bytes words.now))) S.tells
+        (S.held shelf.old) (S.held shelf.new) (K.written out.old) (K.written out.new)
+        ⊎ WasGiven (IsWide S.tells (S.held shelf.old) (command_of (map string_bytes words.now))) S.tells
+        (S.held shelf.old) (S.held shelf.new) (K.written out.old) (K.written out.new) }
+
+    // Status 4: the plan's text is refused with the printed kind at the printed record.
+    ensures plan_refused { result.code ≡ 4 → WasGiven (IsPlanRefused S.tells (S.held shelf.old) (command_of (map string_bytes words.now))) S.tells
+        (S.held shelf.old) (S.held shelf.new) (K.written out.old) (K.written out.new) }
+
+    // Status 9: the printed pair is the first of the plan that is forbidden.
+    ensures conflict { result.code ≡ 9 → WasGiven (IsConflict S.tells (S.held shelf.old) (command_of (map string_bytes words.now))) S.tells
+        (S.held shelf.old) (S.held shelf.new) (K.written out.old) (K.written out.new) }
+
+    // Status 12 comes exactly where no chart has the minutes of the words, but for a fault while the line is put.
+    ensures window { result.code ≡ 12 → WasGiven (IsWindow (command_of (map string_bytes words.now))) S.tells
+        (S.held shelf.old) (S.held shelf.new) (K.written out.old) (K.written out.new) }
+    ensures no_window { (window : Window) → bad_window_of (command_of (map string_bytes words.now)) ≡ Some window
+        → (result.code ≡ 12) ⊎ IsCutOff result.code }
 
     // Status 2 comes exactly where the words are no command, but for a fault while the usage text is put.
-    ensures usage { result.code ≡ 2 → IsNone (command_of (map string_bytes words.now)) × Appends (K.written out.old) (K.written out.new) usage_text }
-    ensures no_command { IsNone (command_of (map string_bytes words.now)) → (result.code ≡ 2) ⊎ ((result.code ≡ 7) ⊎ (result.code ≡ 8)) }
+    ensures usage { result.code ≡ 2 → WasGiven (IsUsage (command_of (map string_bytes words.now))) S.tells
+        (S.held shelf.old) (S.held shelf.new) (K.written out.old) (K.written out.new) }
+    ensures no_command { command_of (map string_bytes words.now) ≡ None → (result.code ≡ 2) ⊎ IsCutOff result.code }
 
-    // Status 6 comes only where a read of an input failed in this call, and then nothing was put.
-    ensures read_fault { result.code ≡ 6 → (name : List ℕ) × Reads (command_of (map string_bytes words.now)) name
+    // Status 6 comes only where a read of an input failed in this call, of the plan only where the instance is a
+    // station, and then nothing was given.
+    ensures read_fault { result.code ≡ 6 → (name : List ℕ) × Reads S.tells (S.held shelf.old) (command_of (map string_bytes words.now)) name
         × (S.read_faults shelf.old name < S.read_faults shelf.new name) }
-    ensures nothing { result.code ≡ 6 → Keeps (K.written out.old) (K.written out.new) }
+    ensures nothing { result.code ≡ 6 → IsNothing (S.held shelf.old) (S.held shelf.new) (K.written out.old) (K.written out.new) }
 
     // Status 7 comes only where a write of a named file failed in this call, or a put.
     ensures write_fault { result.code ≡ 7 →
@@ -69,22 +106,48 @@ pub fn run<S: Shelf, K: Sink>(alloc: Global, words: &[String], shelf: &mut S, ou
         (S.held shelf.old) (S.held shelf.new) (K.written out.old) (K.written out.new) }
 
     // With 7 and 8 nothing was given, or a front of an outcome.
-    ensures cut { (result.code ≡ 7) ⊎ (result.code ≡ 8) →
-        (Same (S.held shelf.old) (S.held shelf.new) × Keeps (K.written out.old) (K.written out.new))
+    ensures cut { IsCutOff result.code →
+        IsNothing (S.held shelf.old) (S.held shelf.new) (K.written out.old) (K.written out.new)
         ⊎ IsCut S.tells (command_of (map string_bytes words.now)) (S.held shelf.old) (S.held shelf.new)
         (S.write_faults shelf.old) (S.write_faults shelf.new) (K.written out.old) (K.written out.new) }
 
-    // Nothing on the shelf changes.
-    ensures unchanged { Same (S.held shelf.old) (S.held shelf.new) }
+    // No name changes but the plan's FILE of `solve`, which holds what it held, or the whole text of a plan of least
+    // cost, or a write of it has failed in this call.
+    ensures unchanged { (name : List ℕ) → (Writes (command_of (map string_bytes words.now)) name → ⊥) → S.held shelf.new name ≡ S.held shelf.old name }
+    ensures plan_file { (instance name : List ℕ) → command_of (map string_bytes words.now) ≡ Some (solve instance (Some name))
+        → IsPlanFile S.tells (S.held shelf.old) (S.held shelf.new) (S.write_faults shelf.old) (S.write_faults shelf.new) instance name }
 
-    // Where no call has failed and memory was found, `solve` ends with 0, 3 or 10, and the instance that the shelf holds
-    // says which.
-    ensures complete { (asked : SolveWords) → command_of (map string_bytes words.now) ≡ Some (solve asked)
+    // Where no call has failed and memory was found, a command ends with one of its own statuses, and what the shelf
+    // holds says which.
+    ensures complete { NoCallFailed (S.read_faults shelf.old) (S.read_faults shelf.new) (S.write_faults shelf.old) (S.write_faults shelf.new) (K.faults out.old) (K.faults out.new)
+        → result.code ≢ 8 → Contains (statuses (command_of (map string_bytes words.now))) result.code }
+    ensures solve_exact { (instance : List ℕ) (file : Option (List ℕ)) (whole : List ℕ) → command_of (map string_bytes words.now) ≡ Some (solve instance file) → S.held shelf.old instance ≡ Some whole
         → NoCallFailed (S.read_faults shelf.old) (S.read_faults shelf.new) (S.write_faults shelf.old) (S.write_faults shelf.new) (K.faults out.old) (K.faults out.new)
-        → result.code ≢ 8 → (result.code ≡ 0) ⊎ ((result.code ≡ 3) ⊎ (result.code ≡ 10)) }
-    ensures exact { (asked : SolveWords) (whole : List ℕ) → command_of (map string_bytes words.now) ≡ Some (solve asked) → S.held shelf.old asked.instance ≡ Some whole
+        → result.code ≢ 8 → SolveEnds (reading whole) result.code }
+    ensures patterns_exact { (instance whole : List ℕ) → command_of (map string_bytes words.now) ≡ Some (patterns instance) → S.held shelf.old instance ≡ Some whole
         → NoCallFailed (S.read_faults shelf.old) (S.read_faults shelf.new) (S.write_faults shelf.old) (S.write_faults shelf.new) (K.faults out.old) (K.faults out.new)
-        → result.code ≢ 8 → EndsAs (reading whole) result.code }
+        → result.code ≢ 8 → ListingEnds (reading whole) result.code }
+    ensures report_exact { (asked : AskedView) (whole : List ℕ) → asked_of (command_of (map string_bytes words.now)) ≡ Some asked → S.held shelf.old asked.instance ≡ Some whole
+        → NoCallFailed (S.read_faults shelf.old) (S.read_faults shelf.new) (S.write_faults shelf.old) (S.write_faults shelf.new) (K.faults out.old) (K.faults out.new)
+        → result.code ≢ 8 → ReportEnds (S.held shelf.old) asked.plan (reading whole) result.code }
+{
+    carry_out(alloc, words, shelf, out)
+}
+
+// Does the work and gives its output.
+fn carry_out<S: Shelf, K: Sink>(
+    alloc: Global,
+    words: &[String],
+    shelf: &mut S,
+    out: &mut K,
+) -> Status
+    ensures ended { IsEnded S.tells (command_of (map string_bytes words.now)) result.code (S.held shelf.old) (S.held shelf.new)
+        (S.write_faults shelf.old) (S.write_faults shelf.new) (K.written out.old) (K.written out.new) }
+    ensures read_fault { result.code ≡ 6 → (name : List ℕ) × Reads S.tells (S.held shelf.old) (command_of (map string_bytes words.now)) name
+        × (S.read_faults shelf.old name < S.read_faults shelf.new name) }
+    ensures write_fault { result.code ≡ 7 →
+        ((name : List ℕ) × Writes (command_of (map string_bytes words.now)) name × (S.write_faults shelf.old name < S.write_faults shelf.new name))
+        ⊎ Rose (K.faults out.old) (K.faults out.new) }
 {
     match work(alloc, words, shelf) {
         Ok(output) => match deliver(shelf, out, &output) {

@@ -12,7 +12,10 @@ pub(super) struct Train {
     pub(super) name: &'static str,
     pub(super) arrive: u32,
     pub(super) depart: u32,
-    pub(super) shift: u32,
+    /// How early and how late it may arrive.
+    pub(super) arrival: (u32, u32),
+    /// How early and how late it may depart.
+    pub(super) departure: (u32, u32),
     pub(super) platforms: &'static str,
 }
 
@@ -21,7 +24,8 @@ pub(super) const R1: Train = Train {
     name: "R1",
     arrive: 10,
     depart: 15,
-    shift: 0,
+    arrival: (0, 0),
+    departure: (0, 0),
     platforms: r#""1","D""#,
 };
 
@@ -37,10 +41,53 @@ pub(super) fn r2(arrive: u32, depart: u32, shift: u32) -> Train {
         name: "R2",
         arrive,
         depart,
-        shift,
+        arrival: (shift, shift),
+        departure: (shift, shift),
         ..R1
     }
 }
+
+/// A train that may arrive in 16 minutes.
+pub(super) const WIDE_TRAIN: Train = Train {
+    arrive: 100,
+    depart: 200,
+    arrival: (7, 8),
+    ..ON_THE_REGULAR_PLATFORM
+};
+
+/// 16 paths in and 16 paths out, at platform `1`.
+pub(super) fn wide_paths(alloc: Global) -> Result<String, AllocError> {
+    let mut paths = String::new(alloc);
+    for number in 0..16 {
+        push_entry(&mut paths, &numbered_path(alloc, "w", number, "W", "in")?)?;
+        push_entry(&mut paths, &numbered_path(alloc, "e", number, "E", "out")?)?;
+    }
+    Ok(paths)
+}
+
+fn numbered_path(
+    alloc: Global,
+    name: &str,
+    number: u32,
+    direction: &str,
+    way: &str,
+) -> Result<String, AllocError> {
+    format!(in alloc;
+        r#"{{"name":"{name}{number}","direction":"{direction}","platform":"1","way":"{way}","minutes":2,"price":0}}"#
+    )
+}
+
+/// Of version 2: one platform, and R1 of S, which begins here.
+pub(super) const BEGINS_HERE: &str =
+    r#"{"format":"tpp-station","version":2,"threshold":2,"conflict_price":5,"buffer_price":1,
+"directions":["W","E"],
+"platforms":[{"name":"1","dummy":false,"price":1000,"headway":2,"buffer":3}],
+"paths":[{"name":"w1","direction":"W","platform":"1","way":"in","minutes":2,"price":0},
+{"name":"e1","direction":"E","platform":"1","way":"out","minutes":2,"price":0}],
+"incompatible":[],
+"trains":[{"name":"R1","from":null,"to":"E","arrive":10,"depart":15,"dwell":1,
+"arrive_early":0,"arrive_late":0,"depart_early":0,"depart_late":0,
+"platforms":["1"],"prefer":["1"],"off_price":100,"shift_price":10,"surcharges":[]}]}"#;
 
 /// S with these paths and trains: a platform `1` of price 1,000, and a dummy platform `D` of price 100,000.
 pub(super) fn s(alloc: Global, paths: &str, trains: &[Train]) -> Result<String, AllocError> {
@@ -62,12 +109,15 @@ fn train_text(alloc: Global, train: &Train) -> Result<String, AllocError> {
         name,
         arrive,
         depart,
-        shift,
+        arrival,
+        departure,
         platforms,
     } = *train;
+    let (arrive_early, arrive_late) = arrival;
+    let (depart_early, depart_late) = departure;
     format!(in alloc;
         r#"{{"name":"{name}","from":"W","to":"E","arrive":{arrive},"depart":{depart},"dwell":1,
-"arrive_early":{shift},"arrive_late":{shift},"depart_early":{shift},"depart_late":{shift},
+"arrive_early":{arrive_early},"arrive_late":{arrive_late},"depart_early":{depart_early},"depart_late":{depart_late},
 "platforms":[{platforms}],"prefer":["1"],"off_price":100,"shift_price":10,"surcharges":[]}}"#
     )
 }

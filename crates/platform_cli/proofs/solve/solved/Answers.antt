@@ -1,12 +1,10 @@
-use Rattle.std.proofs.Common.{ap}
+use Rattle.std.specs.Option.{option_map}
 use Rattle.station_reader.specs.Shown.{record_of}
-use Rattle.platform_cli.specs.View.{reading_of}
+use Rattle.pair_prices.specs.Case.{rule_case}
 use Rattle.platform_cli.proofs.Solving.{right_solution, station_solved}
 use Rattle.platform_cli.proofs.solve.solved.Goals as goal
 
-pub returns-in_ok-walked-in-Taken : goal.returns-in_ok-walked-in-Taken
-returns-in_ok-walked-in-Taken c =
-    station_solved (reading_of c.args.instance) (record_of c.in-Taken.station) c.in_ok-case-in-Taken.case c.in_ok-walked-in-Taken.walked c.solution_output.result
-    (ap reading_of c.in-Taken.is) c.in_ok-case-in-Taken.ensures
-    (right_solution c.in_ok-case-in-Taken.case c.in_ok-walked-in-Taken.walked c.in_ok-walked-in-Taken.ensures.answer c.in_ok-walked-in-Taken.ensures.wide)
-    c.solution_output.ensures
+pub returns : goal.returns
+returns c =
+    station_solved (option_map (λ name. name.now) c.args.file) (rule_case (record_of c.args.station)) c.in_ok-case.case c.in_ok-walked.walked c.solution_output.result c.in_ok-case.ensures
+    (right_solution c.in_ok-case.case c.in_ok-walked.walked c.in_ok-walked.ensures.answer c.in_ok-walked.ensures.wide) c.solution_output.ensures

@@ -1,41 +1,68 @@
-use Rattle.std.proofs.Common.{inl, inr, sym, ◌∙◌, map, ap, Err, string_bytes}
-use Rattle.platform_cli.specs.Command.{command_of}
-use Rattle.platform_cli.specs.View.{file_of, outcome_of}
-use Rattle.platform_cli.proofs.Outcomes.{write_stop, no_name, from_before, optimal_answer, no_plan_answer, refused_answer, exact_answer}
+use Rattle.std.proofs.Common.{map, string_bytes}
+use Rattle.command_words.specs.Command.{command_of}
+use Rattle.platform_cli.proofs.Ends.{quiet_finished, optimal_given, no_plan_given, listed_given, reported_given, refused_given, plan_refused_given, conflict_given, window_given, usage_given, bad_window_status, usage_status, nothing_given, done_of, front_given, kept_name, kept_plan, complete_given, solve_given, listing_given, report_given}
 use Rattle.platform_cli.proofs.top.run.Goals as goal
 
-pub returns-in-Ok-deliver-clause-optimal : goal.returns-in-Ok-deliver-clause-optimal
-returns-in-Ok-deliver-clause-optimal g c = λ asked is code.
-    optimal_answer g.S.Shelf.tells (g.S.Shelf.held c.args.shelf.now) (command_of (map string_bytes c.args.words.now)) asked (g.K.Sink.written c.args.out.now) (g.K.Sink.written c.deliver.new.out) (outcome_of c.in-Ok.output)
-    c.in-Ok.ensures.outcome is (sym c.code.ensures ∙ code) c.in-Ok-deliver.ensures.text
+pub returns-clause-optimal : goal.returns-clause-optimal
+returns-clause-optimal g c = optimal_given c.carry_out.ensures.ended
 
-pub returns-in-Ok-deliver-clause-no_plan : goal.returns-in-Ok-deliver-clause-no_plan
-returns-in-Ok-deliver-clause-no_plan g c = λ asked is code.
-    no_plan_answer g.S.Shelf.tells (g.S.Shelf.held c.args.shelf.now) (command_of (map string_bytes c.args.words.now)) asked (g.K.Sink.written c.args.out.now) (g.K.Sink.written c.deliver.new.out) (outcome_of c.in-Ok.output)
-    c.in-Ok.ensures.outcome is (sym c.code.ensures ∙ code) c.in-Ok-deliver.ensures.text
+pub returns-clause-no_plan : goal.returns-clause-no_plan
+returns-clause-no_plan g c = no_plan_given c.carry_out.ensures.ended
 
-pub returns-in-Ok-deliver-clause-instance_refused : goal.returns-in-Ok-deliver-clause-instance_refused
-returns-in-Ok-deliver-clause-instance_refused g c = λ asked is code.
-    refused_answer g.S.Shelf.tells (g.S.Shelf.held c.args.shelf.now) (command_of (map string_bytes c.args.words.now)) asked (g.K.Sink.written c.args.out.now) (g.K.Sink.written c.deliver.new.out) (outcome_of c.in-Ok.output)
-    c.in-Ok.ensures.outcome is (sym c.code.ensures ∙ code) c.in-Ok-deliver.ensures.text
+pub returns-clause-listed : goal.returns-clause-listed
+returns-clause-listed g c = listed_given c.carry_out.ensures.ended
 
-pub returns-in-Ok-deliver-clause-exact : goal.returns-in-Ok-deliver-clause-exact
-returns-in-Ok-deliver-clause-exact g c = λ asked whole is holds quiet memory.
-    rw c.code.ensures (exact_answer g.S.Shelf.tells (g.S.Shelf.held c.args.shelf.now) (command_of (map string_bytes c.args.words.now)) asked whole (outcome_of c.in-Ok.output) c.in-Ok.ensures.outcome is holds)
+pub returns-clause-reported : goal.returns-clause-reported
+returns-clause-reported g c = reported_given c.carry_out.ensures.ended
 
-pub returns-in-Ok-clause-cut : goal.returns-in-Ok-clause-cut
-returns-in-Ok-clause-cut g c = λ _. inr (record {
-  outcome = outcome_of c.in-Ok.output;
-  is_outcome = c.in-Ok.ensures.outcome;
-  text = c.in-Err-deliver.ensures.front;
-  files = λ name. from_before g.S.Shelf.tells (map file_of c.in-Ok.output.files.items) (g.S.Shelf.held c.args.shelf.now) (g.S.Shelf.held c.work.new.shelf) (g.S.Shelf.held c.deliver.new.shelf)
-      (g.S.Shelf.write_faults c.args.shelf.now) (g.S.Shelf.write_faults c.work.new.shelf) (g.S.Shelf.write_faults c.deliver.new.shelf) name (c.work.ensures.held name) (c.work.ensures.writes name) (c.deliver.ensures.old_or_whole name);
-})
+pub returns-clause-instance_refused : goal.returns-clause-instance_refused
+returns-clause-instance_refused g c = refused_given c.carry_out.ensures.ended
 
-pub returns-in-Ok-clause-write_fault : goal.returns-in-Ok-clause-write_fault
-returns-in-Ok-clause-write_fault g c = λ seven.
-    let stop = write_stop c.in-Err-deliver.stop c.status_of.result.code c.status_of.ensures.code seven in
-    elim (c.in-Err-deliver.ensures.cause (ap (λ s. Err s) stop)) [
-      | inl (name, named, rose) ↦ absurd (no_name _ _ _ (outcome_of c.in-Ok.output) name c.in-Ok.ensures.outcome named)
-      | inr rose ↦ inr rose
-    ]
+pub returns-clause-plan_refused : goal.returns-clause-plan_refused
+returns-clause-plan_refused g c = plan_refused_given c.carry_out.ensures.ended
+
+pub returns-clause-conflict : goal.returns-clause-conflict
+returns-clause-conflict g c = conflict_given c.carry_out.ensures.ended
+
+pub returns-clause-window : goal.returns-clause-window
+returns-clause-window g c = window_given c.carry_out.ensures.ended
+
+pub returns-clause-no_window : goal.returns-clause-no_window
+returns-clause-no_window g c = λ bad words. bad_window_status c.carry_out.ensures.ended (g.S.Shelf.read_faults c.args.shelf.now) (g.S.Shelf.read_faults c.carry_out.new.shelf) bad words c.carry_out.ensures.read_fault
+
+pub returns-clause-usage : goal.returns-clause-usage
+returns-clause-usage g c = usage_given c.carry_out.ensures.ended
+
+pub returns-clause-no_command : goal.returns-clause-no_command
+returns-clause-no_command g c = λ words. usage_status c.carry_out.ensures.ended (g.S.Shelf.read_faults c.args.shelf.now) (g.S.Shelf.read_faults c.carry_out.new.shelf) words c.carry_out.ensures.read_fault
+
+pub returns-clause-nothing : goal.returns-clause-nothing
+returns-clause-nothing g c = nothing_given c.carry_out.ensures.ended
+
+pub returns-clause-whole : goal.returns-clause-whole
+returns-clause-whole g c = done_of c.carry_out.ensures.ended
+
+pub returns-clause-cut : goal.returns-clause-cut
+returns-clause-cut g c = front_given c.carry_out.ensures.ended
+
+pub returns-clause-unchanged : goal.returns-clause-unchanged
+returns-clause-unchanged g c = kept_name c.carry_out.ensures.ended
+
+pub returns-clause-plan_file : goal.returns-clause-plan_file
+returns-clause-plan_file g c = kept_plan c.carry_out.ensures.ended
+
+pub returns-clause-complete : goal.returns-clause-complete
+returns-clause-complete g c = λ quiet memory. complete_given c.carry_out.ensures.ended
+    (quiet_finished g.S.Shelf.tells (g.S.Shelf.held c.args.shelf.now) (command_of (map string_bytes c.args.words.now)) c.carry_out.result.code _ _ _ _ _ _ c.carry_out.ensures.read_fault c.carry_out.ensures.write_fault quiet memory)
+
+pub returns-clause-solve_exact : goal.returns-clause-solve_exact
+returns-clause-solve_exact g c = λ instance file whole words holds quiet memory. solve_given c.carry_out.ensures.ended instance file whole words holds
+    (quiet_finished g.S.Shelf.tells (g.S.Shelf.held c.args.shelf.now) (command_of (map string_bytes c.args.words.now)) c.carry_out.result.code _ _ _ _ _ _ c.carry_out.ensures.read_fault c.carry_out.ensures.write_fault quiet memory)
+
+pub returns-clause-patterns_exact : goal.returns-clause-patterns_exact
+returns-clause-patterns_exact g c = λ instance whole words holds quiet memory. listing_given c.carry_out.ensures.ended instance whole words holds
+    (quiet_finished g.S.Shelf.tells (g.S.Shelf.held c.args.shelf.now) (command_of (map string_bytes c.args.words.now)) c.carry_out.result.code _ _ _ _ _ _ c.carry_out.ensures.read_fault c.carry_out.ensures.write_fault quiet memory)
+
+pub returns-clause-report_exact : goal.returns-clause-report_exact
+returns-clause-report_exact g c = λ asked whole words holds quiet memory. report_given c.carry_out.ensures.ended asked whole words holds
+    (quiet_finished g.S.Shelf.tells (g.S.Shelf.held c.args.shelf.now) (command_of (map string_bytes c.args.words.now)) c.carry_out.result.code _ _ _ _ _ _ c.carry_out.ensures.read_fault c.carry_out.ensures.write_fault quiet memory)

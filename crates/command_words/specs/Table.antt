@@ -1,0 +1,36 @@
+-- The commands that are built, as they stand in the usage text.
+use Rattle.std.specs.Prelude.{List, [], ◌∷◌, codes}
+use Rattle.plain_words.specs.Form.{CommandForm, OptionForm}
+use Rattle.command_words.specs.declared.table.CommandName.{CommandName}
+use Rattle.command_words.specs.declared.table.CommandName.TheVariants as names
+
+-- which command, and how its words are written
+pub record RowView : Type 0 where
+  pub name : CommandName
+  pub form : CommandForm
+
+abbrev pub plan_option : OptionForm
+plan_option = record { name = codes "plan"; value = codes "FILE" }
+
+-- solve INSTANCE [--plan FILE]
+abbrev pub solve_row : RowView
+solve_row = record { name = names.Solve; form = record { word = codes "solve"; arguments = codes "INSTANCE" ∷ []; missing = 0; options = plan_option ∷ [] } }
+
+-- cost INSTANCE PLAN
+abbrev pub cost_row : RowView
+cost_row = record { name = names.Cost; form = record { word = codes "cost"; arguments = codes "INSTANCE" ∷ codes "PLAN" ∷ []; missing = 0; options = [] } }
+
+-- patterns INSTANCE
+abbrev pub patterns_row : RowView
+patterns_row = record { name = names.Patterns; form = record { word = codes "patterns"; arguments = codes "INSTANCE" ∷ []; missing = 0; options = [] } }
+
+-- platforms INSTANCE PLAN FROM TO
+abbrev pub platforms_row : RowView
+platforms_row = record { name = names.Platforms; form = record { word = codes "platforms"; arguments = codes "INSTANCE" ∷ codes "PLAN" ∷ codes "FROM" ∷ codes "TO" ∷ []; missing = 0; options = [] } }
+
+-- paths INSTANCE PLAN FROM TO
+abbrev pub paths_row : RowView
+paths_row = record { name = names.Paths; form = record { word = codes "paths"; arguments = codes "INSTANCE" ∷ codes "PLAN" ∷ codes "FROM" ∷ codes "TO" ∷ []; missing = 0; options = [] } }
+
+abbrev pub command_table : List RowView
+command_table = solve_row ∷ cost_row ∷ patterns_row ∷ platforms_row ∷ paths_row ∷ []

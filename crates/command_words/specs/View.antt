@@ -1,0 +1,22 @@
+-- The code's rows and commands as contracts see them.
+use Rattle.std.specs.Option.{option_map}
+use Rattle.plain_words.specs.View.{form_of}
+use Rattle.command_words.specs.declared.command.Chart.{Chart}
+use Rattle.command_words.specs.declared.command.Command.{Command}
+use Rattle.command_words.specs.declared.command.Command.TheVariants as commands
+use Rattle.command_words.specs.declared.table.TableRow.{TableRow}
+use Rattle.command_words.specs.Command.{ChartView, CommandView, solve, cost, patterns, platforms, paths}
+use Rattle.command_words.specs.Table.{RowView}
+
+abbrev pub row_view : TableRow → RowView
+row_view row = record { name = row.name; form = form_of row.row }
+
+abbrev pub chart_view : Chart → ChartView
+chart_view chart = record { instance = chart.instance.now; plan = chart.plan.now; from = chart.from; to = chart.to }
+
+abbrev pub view_of : Command → CommandView
+view_of (commands.Solve command) = solve command.instance.now (option_map (λ file. file.now) command.plan)
+view_of (commands.Cost command) = cost command.instance.now command.plan.now
+view_of (commands.Patterns command) = patterns command.instance.now
+view_of (commands.Platforms chart) = platforms (chart_view chart)
+view_of (commands.Paths chart) = paths (chart_view chart)

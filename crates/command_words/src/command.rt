@@ -1,0 +1,54 @@
+// The commands of the program.
+
+/// Finds a plan of least cost, and writes it where a file is named.
+#[derive(Clone, Copy, Debug, PartialEq, Eq)]
+pub struct Solve<'a> {
+    /// The file of the station.
+    pub instance: &'a str,
+    /// The file that gets the plan.
+    pub plan: Option<&'a str>,
+}
+
+/// Judges a plan and prints its cost.
+#[derive(Clone, Copy, Debug, PartialEq, Eq)]
+pub struct Cost<'a> {
+    /// The file of the station.
+    pub instance: &'a str,
+    /// The file of the plan.
+    pub plan: &'a str,
+}
+
+/// Prints all pattern lists.
+#[derive(Clone, Copy, Debug, PartialEq, Eq)]
+pub struct Patterns<'a> {
+    /// The file of the station.
+    pub instance: &'a str,
+}
+
+/// Prints a chart of a plan, from one minute up to but without another.
+#[derive(Clone, Copy, Debug, PartialEq, Eq)]
+pub struct Chart<'a> {
+    /// The file of the station.
+    pub instance: &'a str,
+    /// The file of the plan.
+    pub plan: &'a str,
+    /// The first minute, at most 9,999.
+    pub from: u32,
+    /// The minute behind the last one, at most 9,999. It may be any, also one before `from`.
+    pub to: u32,
+}
+
+/// A command with the names and numbers that its words give.
+#[derive(Clone, Copy, Debug, PartialEq, Eq)]
+pub enum Command<'a> {
+    /// `solve INSTANCE [--plan FILE]`
+    Solve(Solve<'a>),
+    /// `cost INSTANCE PLAN`
+    Cost(Cost<'a>),
+    /// `patterns INSTANCE`
+    Patterns(Patterns<'a>),
+    /// `platforms INSTANCE PLAN FROM TO`
+    Platforms(Chart<'a>),
+    /// `paths INSTANCE PLAN FROM TO`
+    Paths(Chart<'a>),
+}

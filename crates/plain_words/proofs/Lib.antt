@@ -1,0 +1,12 @@
+pub mod Once
+pub mod Read
+pub mod Found
+pub mod Values
+pub mod Split
+pub mod Table
+pub mod Declared
+pub mod Lists
+pub mod Walks
+pub mod Steps
+pub mod Passes
+pub mod Rows

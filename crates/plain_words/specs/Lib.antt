@@ -1,0 +1,5 @@
+pub mod App
+pub mod Form
+pub mod Rules
+pub mod Usage
+pub mod View

@@ -1,0 +1,219 @@
+-- How a run ended: each status with what was given.
+use Rattle.std.proofs.Common.{◌≡◌, ◌≢◌, ◌⊎◌, inl, inr, ℕ, ◌<◌, Bool, List, None, Some, sym, ◌∙◌, subst, arith}
+use Rattle.std.specs.declared.option.Option.{Option}
+use Rattle.std.specs.Prelude.{Contains}
+use Rattle.command_words.specs.Command.{CommandView, solve, patterns}
+use Rattle.shelf.specs.Outside.{Same, Rose}
+use Rattle.station_reader.specs.Reading.{reading}
+use Rattle.platform_cli.specs.declared.asked.Window.{Window}
+use Rattle.platform_cli.specs.Answers.{IsUsage, IsWindow, IsUnread, IsWide, IsOptimal, IsNoPlan, IsListed, IsPlanRefused, IsConflict, IsReported}
+use Rattle.platform_cli.specs.Asked.{AskedView, Reads, Writes, asked_of, bad_window_of}
+use Rattle.platform_cli.specs.Exact.{NoCallFailed, SolveEnds, ListingEnds, ReportEnds, statuses}
+use Rattle.platform_cli.specs.Given.{NewFile, Outcome}
+use Rattle.platform_cli.specs.Instance.{Held}
+use Rattle.platform_cli.specs.Outcome.{IsOutcome}
+use Rattle.platform_cli.specs.Run.{Faults, IsFinished, IsDone, IsCut, IsCutOff, IsNothing, IsEnded, IsOldOrWhole, IsPlanFile, WasGiven}
+use Rattle.platform_cli.specs.Statuses.{stop_code}
+use Rattle.platform_cli.specs.declared.output.Stop.{Stop}
+use Rattle.platform_cli.specs.declared.output.Stop.TheVariants.{ReadFault, WriteFault, Memory}
+use Rattle.platform_cli.proofs.Files.{all_kept}
+use Rattle.platform_cli.proofs.Exactness.{status_in, solve_status, listing_status, report_status}
+use Rattle.platform_cli.proofs.Outcomes.{no_fault_code, usage_answer, window_status, refused_answer, no_plan_answer, plan_refused_answer, conflict_answer, optimal_answer, listed_status, reported_answer, bad_status, none_status, bad_window_reads, none_reads}
+use Rattle.platform_cli.proofs.PlanFiles.{unwritten_kept, plan_kept}
+
+pub write_stop : (stop : Stop) (n : ℕ) → n ≡ stop_code stop → n ≡ 7 → stop ≡ WriteFault
+write_stop ReadFault n is seven = absurd (omega (arith, is, seven))
+write_stop WriteFault n is seven = λ _. WriteFault
+write_stop Memory n is seven = absurd (omega (arith, is, seven))
+
+-- a delivery ends by no read fault
+pub cut_off : (stop : Stop) (n : ℕ) → n ≡ stop_code stop → (stop ≡ ReadFault → ⊥) → IsCutOff n
+cut_off ReadFault n is none = absurd (none (λ _. ReadFault))
+cut_off WriteFault n is none = inl is
+cut_off Memory n is none = inr is
+
+pub stopped_at : (stop : Stop) (n : ℕ) → n ≡ stop_code stop → (n ≡ 6) ⊎ IsCutOff n
+stopped_at ReadFault n is = inl is
+stopped_at WriteFault n is = inr (inl is)
+stopped_at Memory n is = inr (inr is)
+
+-- what was so before the files were written was so when the run began
+pub from_before : (tells : Bool) (files : List NewFile) (old mid new : Held) (first before now : Faults) (name : List ℕ) → mid name ≡ old name → before name ≡ first name
+    → IsOldOrWhole tells files mid new before now name → IsOldOrWhole tells files old new first now name
+from_before tells files old mid new first before now name same counts (inl kept) = inl (kept ∙ same)
+from_before tells files old mid new first before now name same counts (inr (inl whole)) = inr (inl whole)
+from_before tells files old mid new first before now name same counts (inr (inr (named, rose))) = inr (inr (named, omega (arith, counts, rose)))
+
+finished_at : (status n : ℕ) → status ≡ n → (n < 6) ⊎ (8 < n) → IsFinished status
+finished_at status n at (inl below) = record {
+  no_read_fault = λ six. omega (arith, at, six, below);
+  no_write_fault = λ seven. omega (arith, at, seven, below);
+  memory_found = λ eight. omega (arith, at, eight, below);
+}
+finished_at status n at (inr above) = record {
+  no_read_fault = λ six. omega (arith, at, six, above);
+  no_write_fault = λ seven. omega (arith, at, seven, above);
+  memory_found = λ eight. omega (arith, at, eight, above);
+}
+
+-- no fault where no call failed and memory was found
+rose_none : {P : List ℕ → Type 0} (before now : Faults) → ((name : List ℕ) × P name × (before name < now name)) → Same before now → ⊥
+rose_none before now (name, at, rose) same = omega (arith, rose, same name)
+
+pub quiet_finished : (tells : Bool) (held : Held) (command : Option CommandView) (status : ℕ) (reads_before reads_now writes_before writes_now : Faults) (puts_before puts_now : ℕ)
+    → (status ≡ 6 → (name : List ℕ) × Reads tells held command name × (reads_before name < reads_now name))
+    → (status ≡ 7 → ((name : List ℕ) × Writes command name × (writes_before name < writes_now name)) ⊎ Rose puts_before puts_now)
+    → NoCallFailed reads_before reads_now writes_before writes_now puts_before puts_now → status ≢ 8 → IsFinished status
+quiet_finished tells held command status reads_before reads_now writes_before writes_now puts_before puts_now read write quiet memory = record {
+  no_read_fault = λ six. rose_none {P = Reads tells held command} reads_before reads_now (read six) quiet.reads;
+  no_write_fault = λ seven. elim (write seven) [
+    | inl file ↦ rose_none {P = Writes command} writes_before writes_now file quiet.writes
+    | inr rose ↦ quiet.puts rose
+  ];
+  memory_found = memory;
+}
+
+module _ {tells : Bool} {command : Option CommandView} {status : ℕ} {old new : Held} {faults_before faults_now : Faults} {before now : Option (List ℕ)}
+    (ended : IsEnded tells command status old new faults_before faults_now before now) where
+  pub done_of : IsFinished status → IsDone tells command status old new before now
+  done_of finished = elim ended.way [
+    | inl done ↦ done
+    | inr other ↦ elim other [
+      | inl cut ↦ elim cut.0 [ inl seven ↦ absurd (finished.no_write_fault seven) | inr eight ↦ absurd (finished.memory_found eight) ]
+      | inr stop ↦ elim stop.0 [
+        | inl six ↦ absurd (finished.no_read_fault six)
+        | inr cut ↦ elim cut [ inl seven ↦ absurd (finished.no_write_fault seven) | inr eight ↦ absurd (finished.memory_found eight) ]
+      ]
+    ]
+  ]
+
+  -- what was given with this status
+  pub given_at : (n : ℕ) → status ≡ n → (n < 6) ⊎ (8 < n) → (P : Outcome → Type 0) → ((outcome : Outcome) → IsOutcome tells old command outcome → outcome.code ≡ n → P outcome) → WasGiven P tells old new before now
+  given_at n at side P answer =
+      let done = done_of (finished_at status n at side) in
+      record {
+        outcome = done.outcome;
+        is = answer done.outcome done.is_outcome (sym done.code ∙ at);
+        text = done.text;
+        files = done.files;
+      }
+
+  pub optimal_given : (instance : List ℕ) (file : Option (List ℕ)) → command ≡ Some (solve instance file) → status ≡ 0 → WasGiven (IsOptimal tells old command) tells old new before now
+  optimal_given instance file words at = given_at 0 at (inl (omega arith)) (IsOptimal tells old command) (λ outcome is code. optimal_answer tells old command instance file outcome words is code)
+
+  pub listed_given : (instance : List ℕ) → command ≡ Some (patterns instance) → status ≡ 0 → WasGiven (IsListed tells old command) tells old new before now
+  listed_given instance words at = given_at 0 at (inl (omega arith)) (IsListed tells old command) (λ outcome is code. listed_status tells old command instance outcome words is code)
+
+  pub reported_given : (asked : AskedView) → asked_of command ≡ Some asked → status ≡ 0 → WasGiven (IsReported tells old command) tells old new before now
+  reported_given asked words at = given_at 0 at (inl (omega arith)) (IsReported tells old command) (λ outcome is code. reported_answer tells old command asked outcome words is code)
+
+  pub no_plan_given : status ≡ 10 → WasGiven (IsNoPlan tells old command) tells old new before now
+  no_plan_given at = given_at 10 at (inr (omega arith)) (IsNoPlan tells old command) (λ outcome is code. no_plan_answer tells old command outcome is code)
+
+  pub plan_refused_given : status ≡ 4 → WasGiven (IsPlanRefused tells old command) tells old new before now
+  plan_refused_given at = given_at 4 at (inl (omega arith)) (IsPlanRefused tells old command) (λ outcome is code. plan_refused_answer tells old command outcome is code)
+
+  pub conflict_given : status ≡ 9 → WasGiven (IsConflict tells old command) tells old new before now
+  conflict_given at = given_at 9 at (inr (omega arith)) (IsConflict tells old command) (λ outcome is code. conflict_answer tells old command outcome is code)
+
+  pub window_given : status ≡ 12 → WasGiven (IsWindow command) tells old new before now
+  window_given at = given_at 12 at (inr (omega arith)) (IsWindow command) (λ outcome is code. window_status tells old command outcome is code)
+
+  pub usage_given : status ≡ 2 → WasGiven (IsUsage command) tells old new before now
+  usage_given at = given_at 2 at (inl (omega arith)) (IsUsage command) (λ outcome is code. usage_answer tells old command outcome is code)
+
+  pub refused_given : status ≡ 3 → WasGiven (IsUnread tells old command) tells old new before now ⊎ WasGiven (IsWide tells old command) tells old new before now
+  refused_given at =
+      let done = done_of (finished_at status 3 at (inl (omega arith))) in
+      elim (refused_answer tells old command done.outcome done.is_outcome (sym done.code ∙ at)) [
+        | inl is ↦ inl (record { outcome = done.outcome; is = is; text = done.text; files = done.files })
+        | inr is ↦ inr (record { outcome = done.outcome; is = is; text = done.text; files = done.files })
+      ]
+
+  done_side : IsDone tells command status old new before now → (status < 6) ⊎ (8 < status)
+  done_side done = elim (no_fault_code tells old command done.outcome done.is_outcome) [
+    | inl below ↦ inl (omega (arith, done.code, below))
+    | inr above ↦ inr (omega (arith, done.code, above))
+  ]
+
+  -- an outcome was given whole, unless the status is of a fault
+  done_or_stopped : IsDone tells command status old new before now ⊎ ((status ≡ 6) ⊎ IsCutOff status)
+  done_or_stopped = elim ended.way [
+    | inl done ↦ inl done
+    | inr other ↦ elim other [ inl cut ↦ inr (inr cut.0) | inr stop ↦ inr stop.0 ]
+  ]
+
+  -- a command that reads nothing has its status, but for a fault while its line is put
+  pub unread_status : (n : ℕ) → ((outcome : Outcome) → IsOutcome tells old command outcome → outcome.code ≡ n) → (status ≡ 6 → ⊥) → (status ≡ n) ⊎ IsCutOff status
+  unread_status n always no_read = elim done_or_stopped [
+    | inl done ↦ inl (done.code ∙ always done.outcome done.is_outcome)
+    | inr stop ↦ elim stop [ inl six ↦ absurd (no_read six) | inr cut ↦ inr cut ]
+  ]
+
+  pub bad_window_status : (reads_before reads_now : Faults) (bad : Window) → bad_window_of command ≡ Some bad → (status ≡ 6 → (name : List ℕ) × Reads tells old command name × (reads_before name < reads_now name)) → (status ≡ 12) ⊎ IsCutOff status
+  bad_window_status reads_before reads_now bad words read =
+      unread_status 12 (λ outcome is. bad_status tells old command bad outcome words is) (λ six. bad_window_reads tells old command bad (read six).0 words (read six).1)
+
+  pub usage_status : (reads_before reads_now : Faults) → command ≡ None → (status ≡ 6 → (name : List ℕ) × Reads tells old command name × (reads_before name < reads_now name)) → (status ≡ 2) ⊎ IsCutOff status
+  usage_status reads_before reads_now words read =
+      unread_status 2 (λ outcome is. none_status tells old command outcome words is) (λ six. none_reads tells old command (read six).0 words (read six).1)
+
+  pub nothing_given : status ≡ 6 → IsNothing old new before now
+  nothing_given six = elim ended.way [
+    | inl done ↦ elim (done_side done) [ inl below ↦ absurd (omega (arith, six, below)) | inr above ↦ absurd (omega (arith, six, above)) ]
+    | inr other ↦ elim other [
+      | inl cut ↦ elim cut.0 [ inl seven ↦ absurd (omega (arith, six, seven)) | inr eight ↦ absurd (omega (arith, six, eight)) ]
+      | inr stop ↦ stop.1
+    ]
+  ]
+
+  pub front_given : IsCutOff status → IsNothing old new before now ⊎ IsCut tells command old new faults_before faults_now before now
+  front_given at = elim ended.way [
+    | inl done ↦ elim (done_side done) [
+      | inl below ↦ elim at [ inl seven ↦ absurd (omega (arith, seven, below)) | inr eight ↦ absurd (omega (arith, eight, below)) ]
+      | inr above ↦ elim at [ inl seven ↦ absurd (omega (arith, seven, above)) | inr eight ↦ absurd (omega (arith, eight, above)) ]
+    ]
+    | inr other ↦ elim other [ inl cut ↦ inr cut.1 | inr stop ↦ inl stop.1 ]
+  ]
+
+  -- a name holds what it held, or is as an outcome leaves it
+  named_as : (name : List ℕ) → (new name ≡ old name) ⊎ ((outcome : Outcome) × IsOutcome tells old command outcome × IsOldOrWhole tells outcome.files old new faults_before faults_now name)
+  named_as name = elim ended.way [
+    | inl done ↦ inr (done.outcome, done.is_outcome, all_kept tells done.outcome.files old new faults_before faults_now done.files name)
+    | inr other ↦ elim other [
+      | inl cut ↦ inr (cut.1.outcome, cut.1.is_outcome, cut.1.files name)
+      | inr stop ↦ inl (stop.1.held name)
+    ]
+  ]
+
+  pub kept_name : (name : List ℕ) → (Writes command name → ⊥) → new name ≡ old name
+  kept_name name unwritten = elim (named_as name) [
+    | inl same ↦ same
+    | inr left ↦ unwritten_kept tells command left.0 old new faults_before faults_now name left.1 unwritten left.2
+  ]
+
+  pub kept_plan : (instance name : List ℕ) → command ≡ Some (solve instance (Some name)) → IsPlanFile tells old new faults_before faults_now instance name
+  kept_plan instance name words = elim (named_as name) [
+    | inl same ↦ inl same
+    | inr left ↦ plan_kept tells command left.0 old new faults_before faults_now instance name left.1 words left.2
+  ]
+
+  -- where the run is finished, the command's statuses and what the shelf holds say which it is
+
+  pub complete_given : IsFinished status → Contains (statuses command) status
+  complete_given finished = let done = done_of finished in status_in tells old command status done.outcome done.is_outcome done.code
+
+  pub solve_given : (instance : List ℕ) (file : Option (List ℕ)) (whole : List ℕ) → command ≡ Some (solve instance file) → old instance ≡ Some whole → IsFinished status → SolveEnds (reading whole) status
+  solve_given instance file whole words holds finished =
+      let done = done_of finished in
+      subst (λ (n : ℕ). SolveEnds (reading whole) n) (sym done.code) (solve_status tells old command instance file whole done.outcome words holds done.is_outcome)
+
+  pub listing_given : (instance whole : List ℕ) → command ≡ Some (patterns instance) → old instance ≡ Some whole → IsFinished status → ListingEnds (reading whole) status
+  listing_given instance whole words holds finished =
+      let done = done_of finished in
+      subst (λ (n : ℕ). ListingEnds (reading whole) n) (sym done.code) (listing_status tells old command instance whole done.outcome words holds done.is_outcome)
+
+  pub report_given : (asked : AskedView) (whole : List ℕ) → asked_of command ≡ Some asked → old asked.instance ≡ Some whole → IsFinished status → ReportEnds old asked.plan (reading whole) status
+  report_given asked whole words holds finished =
+      let done = done_of finished in
+      subst (λ (n : ℕ). ReportEnds old asked.plan (reading whole) n) (sym done.code) (report_status tells old command asked whole done.outcome words holds done.is_outcome)

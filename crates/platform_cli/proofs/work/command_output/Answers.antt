@@ -1,0 +1,26 @@
+use Rattle.std.proofs.Common.{Some, sym, ◌∙◌, ap}
+use Rattle.command_words.specs.declared.command.Command.{Command}
+use Rattle.command_words.specs.View.{view_of}
+use Rattle.platform_cli.specs.declared.asked.Report.TheVariants.{Platforms, Paths}
+use Rattle.platform_cli.specs.declared.asked.Window.{Window}
+use Rattle.platform_cli.specs.Asked.{AskedView, requested}
+use Rattle.platform_cli.specs.View.{chart_asked}
+use Rattle.platform_cli.proofs.work.command_output.Goals as goal
+
+pub returns-in-Cost-clause-cause : goal.returns-in-Cost-clause-cause
+returns-in-Cost-clause-cause g c =
+    c.report_on_plan.ensures.cause (Some (view_of c.args.command.now)) (ap (λ (command : Command). requested (Some (view_of command))) c.in-Cost.is)
+
+pub returns-in-Platforms-clause-cause : goal.returns-in-Platforms-clause-cause
+returns-in-Platforms-clause-cause g c =
+    c.report_on_plan-in-Platforms.ensures.cause (Some (view_of c.args.command.now))
+    (ap (λ (command : Command). requested (Some (view_of command))) c.in-Platforms.is
+    ∙ ap (λ (w : Window). Some (chart_asked c.in-Platforms.chart (Platforms w))) (sym c.window_of.ensures)
+    ∙ ap (λ (asked : AskedView). Some asked) (sym c.chart_asked.ensures))
+
+pub returns-in-Paths-clause-cause : goal.returns-in-Paths-clause-cause
+returns-in-Paths-clause-cause g c =
+    c.report_on_plan-in-Paths.ensures.cause (Some (view_of c.args.command.now))
+    (ap (λ (command : Command). requested (Some (view_of command))) c.in-Paths.is
+    ∙ ap (λ (w : Window). Some (chart_asked c.in-Paths.chart (Paths w))) (sym c.window_of-in-Paths.ensures)
+    ∙ ap (λ (asked : AskedView). Some asked) (sym c.chart_asked-in-Paths.ensures))
