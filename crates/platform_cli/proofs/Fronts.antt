@@ -76,24 +76,22 @@ near_after k x y (most, room, is) short =
           ∙ drop-take (line_length y + 1) (most - (line_length y + 1)) y,
     )
 
--- where no record is refused its line has at most 80 bytes
-header_short : (trains : ℕ) (xs : List ℕ) → header_refusal trains xs ≡ None → line_length xs ≤ 80
-header_short trains xs none = elim (leb_tells (line_length xs) 80) [
+-- Where no record is refused its line has at most 80 bytes: a longer one would be.
+short_unless : (xs : List ℕ) → (record_at xs ≡ Err Record → ⊥) → line_length xs ≤ 80
+short_unless xs refused = elim (leb_tells (line_length xs) 80) [
   | inl short ↦ short.1
-  | inr long ↦ let wrong = ap (λ at. refused_at 1 (header_fault trains at)) (long_line xs long.1) in absurd (cc (wrong, none))
+  | inr long ↦ absurd (refused (long_line xs long.1))
 ]
+
+header_short : (trains : ℕ) (xs : List ℕ) → header_refusal trains xs ≡ None → line_length xs ≤ 80
+header_short trains xs none = short_unless xs (λ wrong. let fault = ap (λ at. refused_at 1 (header_fault trains at)) wrong in cc (fault, none))
 
 choice_short : (c : CaseRecord) (train : ℕ) (xs : List ℕ) → choice_refusal c train xs ≡ None → line_length xs ≤ 80
-choice_short c train xs none = elim (leb_tells (line_length xs) 80) [
-  | inl short ↦ short.1
-  | inr long ↦ let wrong = ap (λ at. refused_at (train + 2) (choice_fault train (length (offers_of c.book train)) at)) (long_line xs long.1) in absurd (cc (wrong, none))
-]
+choice_short c train xs none =
+    short_unless xs (λ wrong. let fault = ap (λ at. refused_at (train + 2) (choice_fault train (length (offers_of c.book train)) at)) wrong in cc (fault, none))
 
 end_short : (trains : ℕ) (xs : List ℕ) → end_refusal trains xs ≡ None → line_length xs ≤ 80
-end_short trains xs none = elim (leb_tells (line_length xs) 80) [
-  | inl short ↦ short.1
-  | inr long ↦ let wrong = ap (λ at. refused_at (trains + 2) (end_fault at)) (long_line xs long.1) in absurd (cc (wrong, none))
-]
+end_short trains xs none = short_unless xs (λ wrong. let fault = ap (λ at. refused_at (trains + 2) (end_fault at)) wrong in cc (fault, none))
 
 -- the first refusal of so many choices from a train on
 abbrev refusals_from : CaseRecord → List ℕ → ℕ → ℕ → Option PlanRefused

@@ -1,0 +1,15 @@
+pub mod Cells
+pub mod Chosen
+pub mod Cleared
+pub mod Duality
+pub mod Order
+pub mod Pivoted
+pub mod Ray
+pub mod Search
+pub mod Started
+pub mod Sums
+pub mod Swapped
+pub mod Unnamed
+pub mod Values
+pub mod Whole
+pub mod Wider

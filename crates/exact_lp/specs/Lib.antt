@@ -1,0 +1,11 @@
+pub mod Answers
+pub mod Columns
+pub mod Ends
+pub mod Laws
+pub mod Ledger
+pub mod Outcomes
+pub mod Places
+pub mod Programs
+pub mod Signs
+pub mod Sources
+pub mod Tables
