@@ -1,0 +1,16 @@
+pub mod Total
+pub mod Leaf
+pub mod Listed
+pub mod Tree
+pub mod Shown
+pub mod Group
+pub mod Expansion
+pub mod Verdict
+pub mod Places
+pub mod Row
+pub mod Sides
+pub mod Sharing
+pub mod Building
+pub mod Fixed
+pub mod Made
+pub mod Laws

@@ -1,0 +1,5 @@
+pub mod WindowLemmas
+pub mod ApartLemmas
+pub mod GroupLemmas
+pub mod PricedLemmas
+pub mod ListedLemmas

@@ -1,0 +1,6 @@
+pub mod Windows
+pub mod Groups
+pub mod Classes
+pub mod Meetings
+pub mod Places
+pub mod Kept

@@ -1,0 +1,14 @@
+pub mod TruthLemmas
+pub mod LineLemmas
+pub mod CutLemmas
+pub mod ReaderLemmas
+pub mod StepLemmas
+pub mod PieceLemmas
+pub mod MetLemmas
+pub mod WriteLemmas
+pub mod LineTexts
+pub mod TreeTexts
+pub mod WidthLemmas
+pub mod ReadTexts
+pub mod WholeTexts
+pub mod RangeLemmas
