@@ -1,7 +1,7 @@
 #!/bin/sh
 # Runs the planner with the words given. It is proved and built first where it isn't built yet or its sources are newer.
 top=$(CDPATH='' cd -- "$(dirname -- "$0")" && pwd) || exit 1
-program=$top/crates/platform_cli/out/platform_cli
+program=$top/crates/tpp/out/tpp
 
 is_current() {
     [ -x "$program" ] && [ -z "$(find "$top/crates.txt" "$top/crates" -name out -prune -o -type f -newer "$program" -print | head -n 1)" ]
@@ -11,7 +11,7 @@ if ! is_current; then
     echo "tpp: proving and building the program; the first time takes a while" >&2
     log=$(mktemp) || exit 1
     # Without words the program only prints its usage.
-    (cd "$top/crates/platform_cli" && rt run) >"$log" 2>&1 </dev/null
+    (cd "$top/crates/tpp" && rt run) >"$log" 2>&1 </dev/null
     if ! is_current; then
         cat "$log" >&2
         rm -f "$log"

@@ -9,8 +9,8 @@ use Rattle.plain_words.specs.Form.{Text, CommandForm, option_names, is_readable}
 use Rattle.plain_words.specs.Rules.{is_option, option_word, option_value, named_words, has_arguments, are_plain}
 use Rattle.plain_words.proofs.Split.{both_true}
 use Rattle.std.proofs.lemmas.Bool.Decides.{nat_tests}
-use Rattle.command_words.specs.Command.{ChartView, CommandView, cost, patterns, platforms, paths, solve_of, chart_of, of_one, of_two, of_four, named_command, picked_row, row_command}
-use Rattle.command_words.specs.Table.{RowView, command_table, solve_row, cost_row, patterns_row, platforms_row, paths_row}
+use Rattle.command_words.specs.Command.{ChartView, CommandView, cost, patterns, platforms, paths, solve_of, check_of, chart_of, make_of, of_one, of_two, of_two_or_three, of_four, named_command, picked_row, row_command}
+use Rattle.command_words.specs.Table.{RowView, command_table, solve_row, check_row, cost_row, patterns_row, platforms_row, paths_row, make_row}
 use Rattle.command_words.specs.Values.{values_command}
 
 -- what the values under a row's names are
@@ -23,35 +23,55 @@ pub record IsRow (row : RowView) : Type 0 where
   pub readable : is_readable row.form ≡ true
   pub same : (named : List Text) (option value : Text → Option Text) → GivesValues row.form named option value → values_command row.name value ≡ named_command row.name named option
 
-one_named : {A : Type 0} (make : Text → Option A) (named : List Text) (first : Option Text) → length named ≤ 1 → first ≡ slice_get named 0 → option_and_then make first ≡ of_one named make
-one_named make [] first few is = rw is refl
-one_named make (a ∷ []) first few is = rw is refl
-one_named make (a ∷ b ∷ rest) first few is = absurd (omega arith)
+one_named : {A : Type 0} (build : Text → Option A) (named : List Text) (first : Option Text) → length named ≤ 1 → first ≡ slice_get named 0 → option_and_then build first ≡ of_one named build
+one_named build [] first few is = rw is refl
+one_named build (a ∷ []) first few is = rw is refl
+one_named build (a ∷ b ∷ rest) first few is = absurd (omega arith)
 
-two_named : {A : Type 0} (make : Text → Text → Option A) (named : List Text) (first second : Option Text) → length named ≤ 2 → first ≡ slice_get named 0 → second ≡ slice_get named 1
-    → option_and_then (λ a. option_and_then (λ b. make a b) second) first ≡ of_two named make
-two_named make [] first second few is next = rw is refl
-two_named make (a ∷ []) first second few is next = rw (is, next) refl
-two_named make (a ∷ b ∷ []) first second few is next = rw (is, next) refl
-two_named make (a ∷ b ∷ c ∷ rest) first second few is next = absurd (omega arith)
+two_named : {A : Type 0} (build : Text → Text → Option A) (named : List Text) (first second : Option Text) → length named ≤ 2 → first ≡ slice_get named 0 → second ≡ slice_get named 1
+    → option_and_then (λ a. option_and_then (λ b. build a b) second) first ≡ of_two named build
+two_named build [] first second few is next = rw is refl
+two_named build (a ∷ []) first second few is next = rw (is, next) refl
+two_named build (a ∷ b ∷ []) first second few is next = rw (is, next) refl
+two_named build (a ∷ b ∷ c ∷ rest) first second few is next = absurd (omega arith)
 
-chart_named : (make : ChartView → CommandView) (named : List Text) (instance plan from to : Option Text) → length named ≤ 4
+two_or_three_named : {A : Type 0} (build : Text → Text → Option Text → Option A) (named : List Text) (first second third : Option Text) → length named ≤ 3
+    → first ≡ slice_get named 0 → second ≡ slice_get named 1 → third ≡ slice_get named 2
+    → option_and_then (λ a. option_and_then (λ b. build a b third) second) first ≡ of_two_or_three named build
+two_or_three_named build [] first second third few is next last = rw is refl
+two_or_three_named build (a ∷ []) first second third few is next last = rw (is, next) refl
+two_or_three_named build (a ∷ b ∷ []) first second third few is next last = rw (is, next, last) refl
+two_or_three_named build (a ∷ b ∷ c ∷ []) first second third few is next last = rw (is, next, last) refl
+two_or_three_named build (a ∷ b ∷ c ∷ d ∷ rest) first second third few is next last = absurd (omega arith)
+
+chart_named : (build : ChartView → CommandView) (named : List Text) (instance plan from to : Option Text) → length named ≤ 4
     → instance ≡ slice_get named 0 → plan ≡ slice_get named 1 → from ≡ slice_get named 2 → to ≡ slice_get named 3
-    → option_and_then (λ i. option_map make (option_and_then (λ p. option_and_then (λ a. option_and_then (λ b. chart_of i p a b) to) from) plan)) instance
-    ≡ of_four named (λ i p a b. option_map make (chart_of i p a b))
-chart_named make [] instance plan from to few e0 e1 e2 e3 = rw e0 refl
-chart_named make (i ∷ []) instance plan from to few e0 e1 e2 e3 = rw (e0, e1) refl
-chart_named make (i ∷ p ∷ []) instance plan from to few e0 e1 e2 e3 = rw (e0, e1, e2) refl
-chart_named make (i ∷ p ∷ a ∷ []) instance plan from to few e0 e1 e2 e3 = rw (e0, e1, e2, e3) refl
-chart_named make (i ∷ p ∷ a ∷ b ∷ []) instance plan from to few e0 e1 e2 e3 = rw (e0, e1, e2, e3) refl
-chart_named make (i ∷ p ∷ a ∷ b ∷ c ∷ rest) instance plan from to few e0 e1 e2 e3 = absurd (omega arith)
+    → option_and_then (λ i. option_map build (option_and_then (λ p. option_and_then (λ a. option_and_then (λ b. chart_of i p a b) to) from) plan)) instance
+    ≡ of_four named (λ i p a b. option_map build (chart_of i p a b))
+chart_named build [] instance plan from to few e0 e1 e2 e3 = rw e0 refl
+chart_named build (i ∷ []) instance plan from to few e0 e1 e2 e3 = rw (e0, e1) refl
+chart_named build (i ∷ p ∷ []) instance plan from to few e0 e1 e2 e3 = rw (e0, e1, e2) refl
+chart_named build (i ∷ p ∷ a ∷ []) instance plan from to few e0 e1 e2 e3 = rw (e0, e1, e2, e3) refl
+chart_named build (i ∷ p ∷ a ∷ b ∷ []) instance plan from to few e0 e1 e2 e3 = rw (e0, e1, e2, e3) refl
+chart_named build (i ∷ p ∷ a ∷ b ∷ c ∷ rest) instance plan from to few e0 e1 e2 e3 = absurd (omega arith)
 
 solve_is : IsRow solve_row
 solve_is = record {
   readable = refl;
   same = λ named option value gives.
-      one_named (λ instance. solve_of instance (value (codes "plan"))) named (value (codes "INSTANCE")) gives.few (gives.arguments 0 (codes "INSTANCE") refl)
-      ∙ ap (λ (plan : Option Text). of_one named (λ instance. solve_of instance plan)) (gives.options (codes "plan") refl);
+      one_named (λ instance. solve_of instance (value (codes "splits")) (value (codes "plan")) (value (codes "proof"))) named (value (codes "INSTANCE")) gives.few
+      (gives.arguments 0 (codes "INSTANCE") refl)
+      ∙ ap (λ (splits : Option Text). of_one named (λ instance. solve_of instance splits (value (codes "plan")) (value (codes "proof")))) (gives.options (codes "splits") refl)
+      ∙ ap (λ (plan : Option Text). of_one named (λ instance. solve_of instance (option (codes "splits")) plan (value (codes "proof")))) (gives.options (codes "plan") refl)
+      ∙ ap (λ (proof : Option Text). of_one named (λ instance. solve_of instance (option (codes "splits")) (option (codes "plan")) proof)) (gives.options (codes "proof") refl);
+}
+
+check_is : IsRow check_row
+check_is = record {
+  readable = refl;
+  same = λ named option value gives.
+      two_or_three_named (λ instance proof plan. Some (check_of instance proof plan)) named (value (codes "INSTANCE")) (value (codes "PROOF")) (value (codes "PLAN")) gives.few
+      (gives.arguments 0 (codes "INSTANCE") refl) (gives.arguments 1 (codes "PROOF") refl) (gives.arguments 2 (codes "PLAN") refl);
 }
 
 cost_is : IsRow cost_row
@@ -83,8 +103,15 @@ paths_is = record {
       (gives.arguments 0 (codes "INSTANCE") refl) (gives.arguments 1 (codes "PLAN") refl) (gives.arguments 2 (codes "FROM") refl) (gives.arguments 3 (codes "TO") refl);
 }
 
+make_is : IsRow make_row
+make_is = record {
+  readable = refl;
+  same = λ named option value gives.
+      two_named make_of named (value (codes "NUMBER")) (value (codes "TRAINS")) gives.few (gives.arguments 0 (codes "NUMBER") refl) (gives.arguments 1 (codes "TRAINS") refl);
+}
+
 table_is : AllByRecursion IsRow command_table
-table_is = (solve_is, (cost_is, (patterns_is, (platforms_is, (paths_is, tt)))))
+table_is = (solve_is, (check_is, (cost_is, (patterns_is, (platforms_is, (paths_is, (make_is, tt)))))))
 
 found_is : {X : Type 0} (P : X → Type 0) (p : X → Bool) (xs : List X) (x : X) → AllByRecursion P xs → find p xs ≡ Some x → P x
 found_is P p [] x all is = absurd (cc is)

@@ -12,9 +12,25 @@ pub record RowView : Type 0 where
 abbrev pub plan_option : OptionForm
 plan_option = record { name = codes "plan"; value = codes "FILE" }
 
--- solve INSTANCE [--plan FILE]
+abbrev pub splits_option : OptionForm
+splits_option = record { name = codes "splits"; value = codes "N" }
+
+abbrev pub proof_option : OptionForm
+proof_option = record { name = codes "proof"; value = codes "FILE" }
+
+-- solve INSTANCE [--splits N] [--plan FILE] [--proof FILE]
 abbrev pub solve_row : RowView
-solve_row = record { name = names.Solve; form = record { word = codes "solve"; arguments = codes "INSTANCE" ∷ []; missing = 0; options = plan_option ∷ [] } }
+solve_row = record {
+  name = names.Solve;
+  form = record { word = codes "solve"; arguments = codes "INSTANCE" ∷ []; missing = 0; options = splits_option ∷ plan_option ∷ proof_option ∷ [] };
+}
+
+-- check INSTANCE PROOF [PLAN]
+abbrev pub check_row : RowView
+check_row = record {
+  name = names.Check;
+  form = record { word = codes "check"; arguments = codes "INSTANCE" ∷ codes "PROOF" ∷ codes "PLAN" ∷ []; missing = 1; options = [] };
+}
 
 -- cost INSTANCE PLAN
 abbrev pub cost_row : RowView
@@ -32,5 +48,9 @@ platforms_row = record { name = names.Platforms; form = record { word = codes "p
 abbrev pub paths_row : RowView
 paths_row = record { name = names.Paths; form = record { word = codes "paths"; arguments = codes "INSTANCE" ∷ codes "PLAN" ∷ codes "FROM" ∷ codes "TO" ∷ []; missing = 0; options = [] } }
 
+-- make NUMBER TRAINS
+abbrev pub make_row : RowView
+make_row = record { name = names.Make; form = record { word = codes "make"; arguments = codes "NUMBER" ∷ codes "TRAINS" ∷ []; missing = 0; options = [] } }
+
 abbrev pub command_table : List RowView
-command_table = solve_row ∷ cost_row ∷ patterns_row ∷ platforms_row ∷ paths_row ∷ []
+command_table = solve_row ∷ check_row ∷ cost_row ∷ patterns_row ∷ platforms_row ∷ paths_row ∷ make_row ∷ []

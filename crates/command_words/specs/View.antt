@@ -5,7 +5,7 @@ use Rattle.command_words.specs.declared.command.Chart.{Chart}
 use Rattle.command_words.specs.declared.command.Command.{Command}
 use Rattle.command_words.specs.declared.command.Command.TheVariants as commands
 use Rattle.command_words.specs.declared.table.TableRow.{TableRow}
-use Rattle.command_words.specs.Command.{ChartView, CommandView, solve, cost, patterns, platforms, paths}
+use Rattle.command_words.specs.Command.{ChartView, CommandView, solve, check_of, cost, patterns, platforms, paths, make}
 use Rattle.command_words.specs.Table.{RowView}
 
 abbrev pub row_view : TableRow → RowView
@@ -15,8 +15,15 @@ abbrev pub chart_view : Chart → ChartView
 chart_view chart = record { instance = chart.instance.now; plan = chart.plan.now; from = chart.from; to = chart.to }
 
 abbrev pub view_of : Command → CommandView
-view_of (commands.Solve command) = solve command.instance.now (option_map (λ file. file.now) command.plan)
+view_of (commands.Solve command) = solve (record {
+  instance = command.instance.now;
+  splits = command.splits;
+  plan = option_map (λ file. file.now) command.plan;
+  proof = option_map (λ file. file.now) command.proof;
+})
+view_of (commands.Check command) = check_of command.instance.now command.proof.now (option_map (λ file. file.now) command.plan)
 view_of (commands.Cost command) = cost command.instance.now command.plan.now
 view_of (commands.Patterns command) = patterns command.instance.now
 view_of (commands.Platforms chart) = platforms (chart_view chart)
 view_of (commands.Paths chart) = paths (chart_view chart)
+view_of (commands.Make command) = make (record { number = command.number; trains = command.trains })

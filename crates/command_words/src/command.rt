@@ -1,11 +1,27 @@
 // The commands of the program.
+ghost use Rattle.std.specs.Prelude.{◌≤◌};
 
-/// Finds a plan of least cost, and writes it where a file is named.
+/// Finds a plan of least cost, and writes plan and proof where files are named.
 #[derive(Clone, Copy, Debug, PartialEq, Eq)]
 pub struct Solve<'a> {
     /// The file of the station.
     pub instance: &'a str,
+    /// How often a train's list may be split, at most 2^40.
+    pub splits: u64,
     /// The file that gets the plan.
+    pub plan: Option<&'a str>,
+    /// The file that gets the proof.
+    pub proof: Option<&'a str>,
+}
+
+/// Checks a proof, and a plan against its bound.
+#[derive(Clone, Copy, Debug, PartialEq, Eq)]
+pub struct Check<'a> {
+    /// The file of the station.
+    pub instance: &'a str,
+    /// The file of the proof.
+    pub proof: &'a str,
+    /// The file of the plan.
     pub plan: Option<&'a str>,
 }
 
@@ -38,11 +54,22 @@ pub struct Chart<'a> {
     pub to: u32,
 }
 
+/// Makes a station from a number.
+#[derive(Clone, Copy, Debug, PartialEq, Eq)]
+pub struct Make {
+    pub number: u64,
+    /// How many trains the station has, at most 200.
+    pub trains: u8,
+    pub ghost few: { trains ≤ 200 },
+}
+
 /// A command with the names and numbers that its words give.
 #[derive(Clone, Copy, Debug, PartialEq, Eq)]
 pub enum Command<'a> {
-    /// `solve INSTANCE [--plan FILE]`
+    /// `solve INSTANCE [--splits N] [--plan FILE] [--proof FILE]`
     Solve(Solve<'a>),
+    /// `check INSTANCE PROOF [PLAN]`
+    Check(Check<'a>),
     /// `cost INSTANCE PLAN`
     Cost(Cost<'a>),
     /// `patterns INSTANCE`
@@ -51,4 +78,6 @@ pub enum Command<'a> {
     Platforms(Chart<'a>),
     /// `paths INSTANCE PLAN FROM TO`
     Paths(Chart<'a>),
+    /// `make NUMBER TRAINS`
+    Make(Make),
 }

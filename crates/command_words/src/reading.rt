@@ -2,11 +2,11 @@
 ghost use Rattle.std.specs.Prelude.{◌≡◌, ◌<◌, IfOk, drop, length, map, string_bytes, Some};
 ghost use Rattle.std.specs.Option.{option_map};
 ghost use Rattle.clap.specs.Words.{first_value, found_of};
-ghost use Rattle.command_words.specs.Command.{chart_of, command_of, minute_of, picked_row, row_command, solve_of};
-ghost use Rattle.command_words.specs.Values.{chart_from, values_command};
+ghost use Rattle.command_words.specs.Command.{are_apart, are_one, chart_of, command_of, is_file, make_of, minute_of, picked_row, row_command, solve_of, splits_of};
+ghost use Rattle.command_words.specs.Values.{chart_from, command_from, make_from, values_command};
 ghost use Rattle.command_words.specs.View.{chart_view, row_view, view_of};
 
-use crate::command::{Chart, Command, Cost, Patterns, Solve};
+use crate::command::{Chart, Check, Command, Cost, Make, Patterns, Solve};
 use crate::number::number_up_to;
 use crate::table::{CommandName, TableRow, commands, find_row};
 use clap::ArgMatches;
@@ -15,6 +15,14 @@ use std::alloc::{AllocError, Global};
 
 /// The last minute that a chart may be asked for.
 const LAST_MINUTE: u64 = 9_999;
+
+/// The most trains of a station.
+const MOST_TRAINS: u64 = 200;
+
+/// The most splits that may be asked for, and those of a search for which no number is given.
+const MOST_SPLITS: u64 = 1_099_511_627_776;
+
+const USUAL_SPLITS: u64 = 10_000;
 
 /// The command that the words are, if they are one. The words leave out the program's own name.
 ///
@@ -55,9 +63,52 @@ fn read_row<'a>(
 fn values_command<'a>(name: CommandName, matches: &ArgMatches<'a>) -> Option<Command<'a>>
     ensures { option_map view_of result ≡ values_command name (first_value (found_of matches.now)) }
 {
+    if let CommandName::Make = name {
+        return make_from(matches);
+    }
     let instance = matches.get_str("INSTANCE")?;
+    command_from(name, instance, matches)
+}
+
+fn make_from<'a>(matches: &ArgMatches<'a>) -> Option<Command<'a>>
+    ensures { option_map view_of result ≡ make_from (first_value (found_of matches.now)) }
+{
+    let number = matches.get_str("NUMBER")?;
+    let trains = matches.get_str("TRAINS")?;
+    make_of(number, trains)
+}
+
+fn make_of<'a>(number: &str, trains: &str) -> Option<Command<'a>>
+    ensures { option_map view_of result ≡ make_of number.now trains.now }
+{
+    let number = number_up_to(u64::MAX, number)?;
+    let trains = number_up_to(MOST_TRAINS, trains)? as u8;
+    Some(Command::Make(Make { number, trains }))
+}
+
+// A command that reads a station.
+fn command_from<'a>(
+    name: CommandName,
+    instance: &'a str,
+    matches: &ArgMatches<'a>,
+) -> Option<Command<'a>>
+    ensures { option_map view_of result ≡ command_from name (first_value (found_of matches.now)) instance.entry.now }
+{
     match name {
-        CommandName::Solve => solve_of(instance, matches.get_str("plan")),
+        CommandName::Solve => {
+            let splits = matches.get_str("splits");
+            let plan = matches.get_str("plan");
+            solve_of(instance, splits, plan, matches.get_str("proof"))
+        }
+        CommandName::Check => {
+            let proof = matches.get_str("PROOF")?;
+            let plan = matches.get_str("PLAN");
+            Some(Command::Check(Check {
+                instance,
+                proof,
+                plan,
+            }))
+        }
         CommandName::Cost => {
             let plan = matches.get_str("PLAN")?;
             Some(Command::Cost(Cost { instance, plan }))
@@ -65,16 +116,62 @@ fn values_command<'a>(name: CommandName, matches: &ArgMatches<'a>) -> Option<Com
         CommandName::Patterns => Some(Command::Patterns(Patterns { instance })),
         CommandName::Platforms => Some(Command::Platforms(chart_from(instance, matches)?)),
         CommandName::Paths => Some(Command::Paths(chart_from(instance, matches)?)),
+        CommandName::Make => None,
     }
 }
 
-// The plan's file may not be the instance, since writing it would destroy the station.
-fn solve_of<'a>(instance: &'a str, plan: Option<&'a str>) -> Option<Command<'a>>
-    ensures { option_map view_of result ≡ solve_of instance.entry.now (option_map (λ file. file.now) plan.entry) }
+fn solve_of<'a>(
+    instance: &'a str,
+    splits: Option<&'a str>,
+    plan: Option<&'a str>,
+    proof: Option<&'a str>,
+) -> Option<Command<'a>>
+    ensures { option_map view_of result ≡ solve_of instance.entry.now (option_map (λ word. word.now) splits.entry)
+        (option_map (λ file. file.now) plan.entry) (option_map (λ file. file.now) proof.entry) }
 {
-    match plan {
-        Some(file) if file == instance => None,
-        _ => Some(Command::Solve(Solve { instance, plan })),
+    let splits = splits_of(splits)?;
+    if !are_apart(instance, plan, proof) {
+        return None;
+    }
+    Some(Command::Solve(Solve {
+        instance,
+        splits,
+        plan,
+        proof,
+    }))
+}
+
+fn splits_of(splits: Option<&str>) -> Option<u64>
+    ensures { result ≡ splits_of (option_map (λ word. word.now) splits.entry) }
+{
+    match splits {
+        Some(word) => number_up_to(MOST_SPLITS, word),
+        None => Some(USUAL_SPLITS),
+    }
+}
+
+// A file that is written may not be the instance, since writing it would destroy the station, nor the other file.
+fn are_apart(instance: &str, plan: Option<&str>, proof: Option<&str>) -> bool
+    ensures { result ≡ are_apart instance.now (option_map (λ file. file.now) plan.entry) (option_map (λ file. file.now) proof.entry) }
+{
+    !is_file(plan, instance) && !is_file(proof, instance) && !are_one(plan, proof)
+}
+
+fn is_file(file: Option<&str>, name: &str) -> bool
+    ensures { result ≡ is_file (option_map (λ f. f.now) file.entry) name.now }
+{
+    match file {
+        Some(file) => file == name,
+        None => false,
+    }
+}
+
+fn are_one(first: Option<&str>, second: Option<&str>) -> bool
+    ensures { result ≡ are_one (option_map (λ f. f.now) first.entry) (option_map (λ f. f.now) second.entry) }
+{
+    match second {
+        Some(file) => is_file(first, file),
+        None => false,
     }
 }
 

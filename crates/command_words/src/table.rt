@@ -11,10 +11,12 @@ use plain_words::{CommandRow, OptionRow};
 #[derive(Clone, Copy)]
 pub(crate) enum CommandName {
     Solve,
+    Check,
     Cost,
     Patterns,
     Platforms,
     Paths,
+    Make,
 }
 
 /// A row of the table.
@@ -26,17 +28,36 @@ pub(crate) struct TableRow {
 
 /// The commands that are built, in the order of the usage text. This table alone says which words and options
 /// there are.
-static COMMANDS: [TableRow; 5] = [
+static COMMANDS: [TableRow; 7] = [
     TableRow {
         name: CommandName::Solve,
         row: CommandRow {
             word: "solve",
             arguments: &["INSTANCE"],
             missing: 0,
-            options: &[OptionRow {
-                name: "plan",
-                value: "FILE",
-            }],
+            options: &[
+                OptionRow {
+                    name: "splits",
+                    value: "N",
+                },
+                OptionRow {
+                    name: "plan",
+                    value: "FILE",
+                },
+                OptionRow {
+                    name: "proof",
+                    value: "FILE",
+                },
+            ],
+        },
+    },
+    TableRow {
+        name: CommandName::Check,
+        row: CommandRow {
+            word: "check",
+            arguments: &["INSTANCE", "PROOF", "PLAN"],
+            missing: 1,
+            options: &[],
         },
     },
     TableRow {
@@ -71,6 +92,15 @@ static COMMANDS: [TableRow; 5] = [
         row: CommandRow {
             word: "paths",
             arguments: &["INSTANCE", "PLAN", "FROM", "TO"],
+            missing: 0,
+            options: &[],
+        },
+    },
+    TableRow {
+        name: CommandName::Make,
+        row: CommandRow {
+            word: "make",
+            arguments: &["NUMBER", "TRAINS"],
             missing: 0,
             options: &[],
         },

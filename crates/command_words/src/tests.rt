@@ -12,8 +12,21 @@ fn words_of(alloc: Global, text: &str) -> Result<Vec<String>, AllocError> {
     Ok(words)
 }
 
-fn solve<'a>(instance: &'a str, plan: Option<&'a str>) -> Command<'a> {
-    Command::Solve(Solve { instance, plan })
+fn solve<'a>(splits: u64, plan: Option<&'a str>, proof: Option<&'a str>) -> Command<'a> {
+    Command::Solve(Solve {
+        instance: "s",
+        splits,
+        plan,
+        proof,
+    })
+}
+
+fn check<'a>(plan: Option<&'a str>) -> Command<'a> {
+    Command::Check(Check {
+        instance: "s",
+        proof: "q",
+        plan,
+    })
 }
 
 fn chart<'a>(from: u32, to: u32) -> Chart<'a> {
@@ -28,10 +41,18 @@ fn chart<'a>(from: u32, to: u32) -> Chart<'a> {
 #[test]
 fn words_that_are_a_command(rt: HostRuntime) -> Result<(), Fail> {
     let cases = [
-        ("solve s", solve("s", None)),
-        ("solve --plan p s", solve("s", Some("p"))),
-        ("solve s --plan p", solve("s", Some("p"))),
-        ("solve s --plan ./s", solve("s", Some("./s"))),
+        ("solve s", solve(10_000, None, None)),
+        ("solve --plan ./s s", solve(10_000, Some("./s"), None)),
+        (
+            "solve s --proof q --splits 0 --plan p",
+            solve(0, Some("p"), Some("q")),
+        ),
+        (
+            "solve s --splits 1099511627776",
+            solve(1_099_511_627_776, None, None),
+        ),
+        ("check s q", check(None)),
+        ("check s q p", check(Some("p"))),
         (
             "cost s s",
             Command::Cost(Cost {
@@ -43,6 +64,13 @@ fn words_that_are_a_command(rt: HostRuntime) -> Result<(), Fail> {
         ("platforms s p 8 20", Command::Platforms(chart(8, 20))),
         ("platforms s p 0 9999", Command::Platforms(chart(0, 9_999))),
         ("paths s p 8 8", Command::Paths(chart(8, 8))),
+        (
+            "make 18446744073709551615 200",
+            Command::Make(Make {
+                number: u64::MAX,
+                trains: 200,
+            }),
+        ),
     ];
     for (text, command) in cases {
         let words = words_of(rt.alloc(), text)?;
@@ -59,6 +87,7 @@ fn words_that_are_none(rt: HostRuntime) -> Result<(), Fail> {
         "s",
         "--help",
         "make 7 201",
+        "make 18446744073709551616 1",
         "trial 07 3",
         "solve",
         "solve ''",
@@ -72,6 +101,11 @@ fn words_that_are_none(rt: HostRuntime) -> Result<(), Fail> {
         "solve s --plan",
         "solve s --plan -p",
         "solve s --plan s",
+        "solve s --proof s",
+        "solve s --splits 1099511627777",
+        "solve s --splits 07",
+        "check s",
+        "check s q p x",
         "cost s",
         "cost s p q",
         "cost s --plan p",
@@ -94,11 +128,13 @@ fn words_that_are_none(rt: HostRuntime) -> Result<(), Fail> {
 #[test]
 fn usage_of_all_commands(rt: HostRuntime) -> Result<(), Fail> {
     let expected = "Usage\n\
-        solve INSTANCE [--plan FILE]\n\
+        solve INSTANCE [--splits N] [--plan FILE] [--proof FILE]\n\
+        check INSTANCE PROOF [PLAN]\n\
         cost INSTANCE PLAN\n\
         patterns INSTANCE\n\
         platforms INSTANCE PLAN FROM TO\n\
-        paths INSTANCE PLAN FROM TO\n";
+        paths INSTANCE PLAN FROM TO\n\
+        make NUMBER TRAINS\n";
     assert_eq!(rt; usage(rt.alloc())?.as_slice(), expected.as_bytes());
     Ok(())
 }

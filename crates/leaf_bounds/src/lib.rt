@@ -45,6 +45,3 @@ pub use sharing::share;
 pub use table::PotTable;
 pub use tree::{Bound, Cut, Node, Tree};
 pub use uses::UseOf;
-
-#[cfg(test)]
-mod tests;

@@ -15,6 +15,3 @@ mod window;
 pub use classes::Classes;
 pub use meeting::Meeting;
 pub use meetings::Meetings;
-
-#[cfg(test)]
-mod tests;

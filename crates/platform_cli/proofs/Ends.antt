@@ -2,24 +2,26 @@
 use Rattle.std.proofs.Common.{◌≡◌, ◌≢◌, ◌⊎◌, inl, inr, ℕ, ◌<◌, Bool, List, None, Some, sym, ◌∙◌, subst, arith}
 use Rattle.std.specs.declared.option.Option.{Option}
 use Rattle.std.specs.Prelude.{Contains}
-use Rattle.command_words.specs.Command.{CommandView, solve, patterns}
+use Rattle.command_words.specs.Command.{CommandView, SolveView, CheckView, MakeView, solve, check, patterns, make}
 use Rattle.shelf.specs.Outside.{Same, Rose}
 use Rattle.station_reader.specs.Reading.{reading}
 use Rattle.platform_cli.specs.declared.asked.Window.{Window}
-use Rattle.platform_cli.specs.Answers.{IsUsage, IsWindow, IsUnread, IsWide, IsOptimal, IsNoPlan, IsListed, IsPlanRefused, IsConflict, IsReported}
+use Rattle.platform_cli.specs.Answers.{IsUsage, IsWindow, IsUnread, IsOptimal, IsNoPlan, IsOpen, IsListed, IsMade, IsProofRefused, IsChecked, IsPlanRefused, IsConflict, IsReported}
 use Rattle.platform_cli.specs.Asked.{AskedView, Reads, Writes, asked_of, bad_window_of}
-use Rattle.platform_cli.specs.Exact.{NoCallFailed, SolveEnds, ListingEnds, ReportEnds, statuses}
+use Rattle.platform_cli.specs.Exact.{NoCallFailed, SolveEnds, CheckEnds, ListingEnds, ReportEnds, statuses}
 use Rattle.platform_cli.specs.Given.{NewFile, Outcome}
 use Rattle.platform_cli.specs.Instance.{Held}
 use Rattle.platform_cli.specs.Outcome.{IsOutcome}
-use Rattle.platform_cli.specs.Run.{Faults, IsFinished, IsDone, IsCut, IsCutOff, IsNothing, IsEnded, IsOldOrWhole, IsPlanFile, WasGiven}
+use Rattle.platform_cli.specs.Run.{Faults, IsFinished, IsDone, IsCut, IsCutOff, IsNothing, IsEnded, IsOldOrWhole, IsPlanFile, IsProofKept, WasGiven}
 use Rattle.platform_cli.specs.Statuses.{stop_code}
 use Rattle.platform_cli.specs.declared.output.Stop.{Stop}
 use Rattle.platform_cli.specs.declared.output.Stop.TheVariants.{ReadFault, WriteFault, Memory}
 use Rattle.platform_cli.proofs.Files.{all_kept}
-use Rattle.platform_cli.proofs.Exactness.{status_in, solve_status, listing_status, report_status}
-use Rattle.platform_cli.proofs.Outcomes.{no_fault_code, usage_answer, window_status, refused_answer, no_plan_answer, plan_refused_answer, conflict_answer, optimal_answer, listed_status, reported_answer, bad_status, none_status, bad_window_reads, none_reads}
-use Rattle.platform_cli.proofs.PlanFiles.{unwritten_kept, plan_kept}
+use Rattle.platform_cli.proofs.Exactness.{status_in, solve_status, check_status, listing_status, report_status}
+use Rattle.platform_cli.proofs.Outcomes.{no_fault_code, usage_answer, window_status, refused_answer, no_plan_answer, stopped_answer, proof_refused_answer, plan_refused_answer, conflict_answer, optimal_answer, checked_status, made_status, listed_status, reported_answer, bad_status, none_status, bad_window_reads, none_reads}
+use Rattle.platform_cli.proofs.PlanFiles.{unwritten_kept, plan_kept, proof_kept}
+use Rattle.command_words.specs.Command.{are_apart}
+use Rattle.std.proofs.Common.{true}
 
 pub write_stop : (stop : Stop) (n : ℕ) → n ≡ stop_code stop → n ≡ 7 → stop ≡ WriteFault
 write_stop ReadFault n is seven = absurd (omega (arith, is, seven))
@@ -98,8 +100,14 @@ module _ {tells : Bool} {command : Option CommandView} {status : ℕ} {old new :
         files = done.files;
       }
 
-  pub optimal_given : (instance : List ℕ) (file : Option (List ℕ)) → command ≡ Some (solve instance file) → status ≡ 0 → WasGiven (IsOptimal tells old command) tells old new before now
-  optimal_given instance file words at = given_at 0 at (inl (omega arith)) (IsOptimal tells old command) (λ outcome is code. optimal_answer tells old command instance file outcome words is code)
+  pub optimal_given : (words : SolveView) → command ≡ Some (solve words) → status ≡ 0 → WasGiven (IsOptimal tells old command) tells old new before now
+  optimal_given words asked at = given_at 0 at (inl (omega arith)) (IsOptimal tells old command) (λ outcome is code. optimal_answer tells old command words outcome asked is code)
+
+  pub checked_given : (words : CheckView) → command ≡ Some (check words) → status ≡ 0 → WasGiven (IsChecked tells old command) tells old new before now
+  checked_given words asked at = given_at 0 at (inl (omega arith)) (IsChecked tells old command) (λ outcome is code. checked_status tells old command words outcome asked is code)
+
+  pub made_given : (words : MakeView) → command ≡ Some (make words) → status ≡ 0 → WasGiven (IsMade command) tells old new before now
+  made_given words asked at = given_at 0 at (inl (omega arith)) (IsMade command) (λ outcome is code. made_status tells old command words outcome asked is code)
 
   pub listed_given : (instance : List ℕ) → command ≡ Some (patterns instance) → status ≡ 0 → WasGiven (IsListed tells old command) tells old new before now
   listed_given instance words at = given_at 0 at (inl (omega arith)) (IsListed tells old command) (λ outcome is code. listed_status tells old command instance outcome words is code)
@@ -109,6 +117,12 @@ module _ {tells : Bool} {command : Option CommandView} {status : ℕ} {old new :
 
   pub no_plan_given : status ≡ 10 → WasGiven (IsNoPlan tells old command) tells old new before now
   no_plan_given at = given_at 10 at (inr (omega arith)) (IsNoPlan tells old command) (λ outcome is code. no_plan_answer tells old command outcome is code)
+
+  pub open_given : status ≡ 11 → WasGiven (IsOpen tells old command) tells old new before now
+  open_given at = given_at 11 at (inr (omega arith)) (IsOpen tells old command) (λ outcome is code. stopped_answer tells old command outcome is code)
+
+  pub proof_refused_given : status ≡ 5 → WasGiven (IsProofRefused tells old command) tells old new before now
+  proof_refused_given at = given_at 5 at (inl (omega arith)) (IsProofRefused tells old command) (λ outcome is code. proof_refused_answer tells old command outcome is code)
 
   pub plan_refused_given : status ≡ 4 → WasGiven (IsPlanRefused tells old command) tells old new before now
   plan_refused_given at = given_at 4 at (inl (omega arith)) (IsPlanRefused tells old command) (λ outcome is code. plan_refused_answer tells old command outcome is code)
@@ -122,13 +136,8 @@ module _ {tells : Bool} {command : Option CommandView} {status : ℕ} {old new :
   pub usage_given : status ≡ 2 → WasGiven (IsUsage command) tells old new before now
   usage_given at = given_at 2 at (inl (omega arith)) (IsUsage command) (λ outcome is code. usage_answer tells old command outcome is code)
 
-  pub refused_given : status ≡ 3 → WasGiven (IsUnread tells old command) tells old new before now ⊎ WasGiven (IsWide tells old command) tells old new before now
-  refused_given at =
-      let done = done_of (finished_at status 3 at (inl (omega arith))) in
-      elim (refused_answer tells old command done.outcome done.is_outcome (sym done.code ∙ at)) [
-        | inl is ↦ inl (record { outcome = done.outcome; is = is; text = done.text; files = done.files })
-        | inr is ↦ inr (record { outcome = done.outcome; is = is; text = done.text; files = done.files })
-      ]
+  pub refused_given : status ≡ 3 → WasGiven (IsUnread tells old command) tells old new before now
+  refused_given at = given_at 3 at (inl (omega arith)) (IsUnread tells old command) (λ outcome is code. refused_answer tells old command outcome is code)
 
   done_side : IsDone tells command status old new before now → (status < 6) ⊎ (8 < status)
   done_side done = elim (no_fault_code tells old command done.outcome done.is_outcome) [
@@ -192,10 +201,18 @@ module _ {tells : Bool} {command : Option CommandView} {status : ℕ} {old new :
     | inr left ↦ unwritten_kept tells command left.0 old new faults_before faults_now name left.1 unwritten left.2
   ]
 
-  pub kept_plan : (instance name : List ℕ) → command ≡ Some (solve instance (Some name)) → IsPlanFile tells old new faults_before faults_now instance name
-  kept_plan instance name words = elim (named_as name) [
+  pub kept_plan : (words : SolveView) (name : List ℕ) → command ≡ Some (solve words) → are_apart words.instance words.plan words.proof ≡ true → words.plan ≡ Some name
+      → IsPlanFile tells old new faults_before faults_now words.instance name
+  kept_plan words name asked apart named = elim (named_as name) [
     | inl same ↦ inl same
-    | inr left ↦ plan_kept tells command left.0 old new faults_before faults_now instance name left.1 words left.2
+    | inr left ↦ plan_kept tells command left.0 old new faults_before faults_now words name left.1 asked apart named left.2
+  ]
+
+  pub kept_proof : (words : SolveView) (name : List ℕ) → command ≡ Some (solve words) → are_apart words.instance words.plan words.proof ≡ true → words.proof ≡ Some name
+      → IsProofKept tells old new faults_before faults_now words.instance name
+  kept_proof words name asked apart named = elim (named_as name) [
+    | inl same ↦ inl same
+    | inr left ↦ proof_kept tells command left.0 old new faults_before faults_now words name left.1 asked apart named left.2
   ]
 
   -- where the run is finished, the command's statuses and what the shelf holds say which it is
@@ -203,10 +220,15 @@ module _ {tells : Bool} {command : Option CommandView} {status : ℕ} {old new :
   pub complete_given : IsFinished status → Contains (statuses command) status
   complete_given finished = let done = done_of finished in status_in tells old command status done.outcome done.is_outcome done.code
 
-  pub solve_given : (instance : List ℕ) (file : Option (List ℕ)) (whole : List ℕ) → command ≡ Some (solve instance file) → old instance ≡ Some whole → IsFinished status → SolveEnds (reading whole) status
-  solve_given instance file whole words holds finished =
+  pub solve_given : (words : SolveView) (whole : List ℕ) → command ≡ Some (solve words) → old words.instance ≡ Some whole → IsFinished status → SolveEnds words.splits (reading whole) status
+  solve_given words whole asked holds finished =
       let done = done_of finished in
-      subst (λ (n : ℕ). SolveEnds (reading whole) n) (sym done.code) (solve_status tells old command instance file whole done.outcome words holds done.is_outcome)
+      subst (λ (n : ℕ). SolveEnds words.splits (reading whole) n) (sym done.code) (solve_status tells old command words whole done.outcome asked holds done.is_outcome)
+
+  pub check_given : (words : CheckView) (whole : List ℕ) → command ≡ Some (check words) → old words.instance ≡ Some whole → IsFinished status → CheckEnds old words (reading whole) status
+  check_given words whole asked holds finished =
+      let done = done_of finished in
+      subst (λ (n : ℕ). CheckEnds old words (reading whole) n) (sym done.code) (check_status tells old command words whole done.outcome asked holds done.is_outcome)
 
   pub listing_given : (instance whole : List ℕ) → command ≡ Some (patterns instance) → old instance ≡ Some whole → IsFinished status → ListingEnds (reading whole) status
   listing_given instance whole words holds finished =

@@ -3,10 +3,12 @@ pub mod Readings
 pub mod Files
 pub mod Puts
 pub mod Answering
-pub mod Solving
+pub mod CheckSteps
 pub mod Fronts
 pub mod Verdicts
 pub mod Outcomes
 pub mod PlanFiles
 pub mod Ends
 pub mod Exactness
+pub mod FedSteps
+pub mod SolveSteps

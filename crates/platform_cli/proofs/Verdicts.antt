@@ -1,5 +1,15 @@
 -- What the bytes of a plan and the verdict on it say.
-use Rattle.std.proofs.Common.{◌≡◌, ◌≤◌, Bool, false, List, ℕ, IfSome, None, Some, sym, ◌∙◌, ap, arith, length, take}
+use Rattle.std.proofs.Common.{◌≡◌, ◌≤◌, inl, inr, refl, Bool, false, pos, List, ℕ, IfOk, IfSome, None, Some, Result, Ok, Err, sym, ◌∙◌, ap, arith, length, take}
+use Rattle.std.specs.Prelude.{◌↔◌}
+use Rattle.std.specs.declared.alloc.AllocError.{AllocError}
+use Rattle.pair_prices.specs.Plan.{IsFeasible, cost}
+use Rattle.leaf_bounds.specs.declared.tree.Bound.{Bound}
+use Rattle.platform_cli.specs.Report.{checked_text}
+use Rattle.reports.specs.Text.{conflict_text}
+use Rattle.platform_cli.specs.Given.{text_outcome}
+use Rattle.platform_cli.specs.Judge.{IsJudged}
+use Rattle.platform_cli.specs.declared.output.Output.{Output}
+use Rattle.platform_cli.specs.View.{outcome_of}
 use Rattle.std.specs.declared.option.Option.{Option}
 use Rattle.std.specs.Prelude.{IsTrue}
 use Rattle.pair_prices.specs.Case.{CaseRecord}
@@ -7,7 +17,7 @@ use Rattle.plan_cost.specs.declared.verdict.Clash.{Clash}
 use Rattle.plan_cost.specs.declared.verdict.Costs.{Costs}
 use Rattle.plan_cost.specs.declared.verdict.Verdict.TheVariants.{Cost, Conflict}
 use Rattle.plan_cost.specs.PlanReading.{PlanReading, plan_reading}
-use Rattle.plan_cost.specs.Verdict.{costs_of, first_clash, verdict_by, verdict_of}
+use Rattle.plan_cost.specs.Verdict.{costs_of, first_clash, is_cost, verdict_by, verdict_of}
 use Rattle.platform_cli.specs.Instance.{Held, IsInput, IsPlan}
 use Rattle.platform_cli.proofs.Fronts.{plan_front}
 
@@ -44,3 +54,17 @@ costs_told c plan costs is = costs_by (first_clash c plan) (costs_of c plan) cos
 
 pub not_true : IsTrue false → ⊥
 not_true is = cc
+
+-- the output of a plan that isn't feasible
+pub conflict_told : (c : CaseRecord) (plan : List ℕ) (clash : Clash) (report : List ℕ → List ℕ) (result : Result Output AllocError) → Conflict clash ≡ verdict_of c plan → IsTrue (is_cost (Conflict clash)) ↔ IsFeasible c plan
+    → IfOk result (λ output. outcome_of output ≡ text_outcome 9 (conflict_text c.station clash)) → IfOk result (λ output. IsJudged report c plan (outcome_of output))
+conflict_told c plan clash report (Err e) is feasible made = tt
+conflict_told c plan clash report (Ok output) is feasible made = inr (clash, clash_told c plan clash is, λ f. not_true (feasible.1 f), made)
+
+-- the output of a feasible plan beside a bound
+pub cost_beside : (c : CaseRecord) (plan : List ℕ) (costs : Costs) (bound : Bound) (text : List ℕ) (output : Output) → Cost costs ≡ verdict_of c plan → IsTrue (is_cost (Cost costs)) ↔ IsFeasible c plan
+    → ((total : ℕ) → costs.total ≡ pos total → text ≡ checked_text bound total) → outcome_of output ≡ text_outcome 0 text
+    → IsJudged (λ p. checked_text bound (cost c p)) c plan (outcome_of output)
+unfolding costs_of
+cost_beside c plan costs bound text output is feasible told made =
+    inl (feasible.0 refl, made ∙ ap (λ (t : List ℕ). text_outcome 0 t) (told (cost c plan) (ap (λ (k : Costs). k.total) (costs_told c plan costs is))))

@@ -1,25 +1,27 @@
 -- What a run gives, a record for each answer: what the words ask for, what the files are read as, and the outcome.
-use Rattle.std.specs.Prelude.{◌≡◌, ℕ, ◌<◌, ◌≤◌, Bool, List, Option, None, Some}
-use Rattle.command_words.specs.Command.{CommandView, solve, patterns}
+use Rattle.std.specs.Prelude.{◌≡◌, ℕ, Bool, List, Option, None, Some, Ok, Err, IfSome}
+use Rattle.command_words.specs.Command.{CommandView, SolveView, CheckView, MakeView, solve, check, patterns, make}
 use Rattle.command_words.specs.Usage.{usage_text}
 use Rattle.station_reader.specs.declared.refusal.RefusedKind.{RefusedKind}
 use Rattle.station_reader.specs.Allowed.{StationRecord}
 use Rattle.station_reader.specs.Reading.{taken, refused}
-use Rattle.pair_prices.specs.Case.{rule_case}
-use Rattle.pair_prices.specs.Plan.{IsFeasible}
+use Rattle.pair_prices.specs.Case.{CaseRecord, rule_case}
+use Rattle.pair_prices.specs.Plan.{IsFeasible, cost}
 use Rattle.plan_cost.specs.declared.refusal.PlanRefused.{PlanRefused}
 use Rattle.plan_cost.specs.declared.verdict.Clash.{Clash}
 use Rattle.plan_cost.specs.PlanReading.{taken as plan_taken, refused as plan_refused}
 use Rattle.plan_cost.specs.Verdict.{first_clash}
-use Rattle.all_plans.specs.Count.{plan_count}
-use Rattle.all_plans.specs.Least.{IsLeastPlan, HasNoPlan}
+use Rattle.leaf_bounds.specs.declared.tree.Bound.{Bound}
+use Rattle.leaf_bounds.specs.Laws.{KeepsTo}
+use Rattle.proof_file.specs.Accepted.{IsAccepted}
+use Rattle.proof_rules.specs.declared.refused.ProofRefused.{ProofRefused}
 use Rattle.reports.specs.Text.{patterns_text, conflict_text, plan_refused_text, window_text}
 use Rattle.platform_cli.specs.declared.asked.Window.{Window}
-use Rattle.platform_cli.specs.Asked.{AskedView, asked_of, bad_window_of, instance_of}
+use Rattle.platform_cli.specs.Asked.{AskedView, asked_of, bad_window_of, instance_of, plan_of}
 use Rattle.platform_cli.specs.Given.{Outcome, text_outcome}
-use Rattle.platform_cli.specs.Instance.{Held, IsInstance, IsPlan}
-use Rattle.platform_cli.specs.Report.{refused_text, wide_text, no_plan_text, report_text}
-use Rattle.platform_cli.specs.Solve.{optimal_outcome}
+use Rattle.platform_cli.specs.Instance.{Held, IsInstance, IsPlan, IsProof}
+use Rattle.platform_cli.specs.Report.{refused_text, report_text, made_text, accepted_text, checked_text, proof_refused_text}
+use Rattle.platform_cli.specs.Solve.{IsOptimalFor, IsNoPlanFor, IsOpenFor}
 
 -- The words are no command. The usage text is given.
 pub record IsUsage (command : Option CommandView) (outcome : Outcome) : Type 0 where
@@ -41,39 +43,29 @@ pub record IsUnread (tells : Bool) (held : Held) (command : Option CommandView) 
   pub read : IsInstance tells held instance (refused kind place)
   pub is : outcome ≡ text_outcome 3 (refused_text kind place)
 
--- Of `solve`: the instance is a station with more than 10,000 lists of pattern numbers.
-pub record IsWide (tells : Bool) (held : Held) (command : Option CommandView) (outcome : Outcome) : Type 0 where
-  pub instance : List ℕ
-  pub file : Option (List ℕ)
-  pub asked : command ≡ Some (solve instance file)
-  pub station : StationRecord
-  pub read : IsInstance tells held instance (taken station)
-  pub above : 10_000 < plan_count (rule_case station)
-  pub is : outcome ≡ text_outcome 3 wide_text
-
--- Of `solve`: the instance is a station, the plan is feasible, and no feasible plan costs less. Its report is given, and
--- its text under the name of the plan's file.
+-- Of `solve`: the instance is a station, and a plan of least cost is given.
 pub record IsOptimal (tells : Bool) (held : Held) (command : Option CommandView) (outcome : Outcome) : Type 0 where
-  pub instance : List ℕ
-  pub file : Option (List ℕ)
-  pub asked : command ≡ Some (solve instance file)
+  pub words : SolveView
+  pub asked : command ≡ Some (solve words)
   pub station : StationRecord
-  pub read : IsInstance tells held instance (taken station)
-  pub within : plan_count (rule_case station) ≤ 10_000
-  pub plan : List ℕ
-  pub least : IsLeastPlan (rule_case station) plan
-  pub is : outcome ≡ optimal_outcome file (rule_case station) plan
+  pub read : IsInstance tells held words.instance (taken station)
+  pub found : IsOptimalFor (rule_case station) words outcome
 
--- Of `solve`: the instance is a station, and no plan of it is feasible. That is said, and no file is written.
+-- Of `solve`: the instance is a station, no plan of it is feasible, and that is said.
 pub record IsNoPlan (tells : Bool) (held : Held) (command : Option CommandView) (outcome : Outcome) : Type 0 where
-  pub instance : List ℕ
-  pub file : Option (List ℕ)
-  pub asked : command ≡ Some (solve instance file)
+  pub words : SolveView
+  pub asked : command ≡ Some (solve words)
   pub station : StationRecord
-  pub read : IsInstance tells held instance (taken station)
-  pub within : plan_count (rule_case station) ≤ 10_000
-  pub none : HasNoPlan (rule_case station)
-  pub is : outcome ≡ text_outcome 10 no_plan_text
+  pub read : IsInstance tells held words.instance (taken station)
+  pub found : IsNoPlanFor (rule_case station) words outcome
+
+-- Of `solve`: the instance is a station, and the splits are spent. What is known is given.
+pub record IsOpen (tells : Bool) (held : Held) (command : Option CommandView) (outcome : Outcome) : Type 0 where
+  pub words : SolveView
+  pub asked : command ≡ Some (solve words)
+  pub station : StationRecord
+  pub read : IsInstance tells held words.instance (taken station)
+  pub found : IsOpenFor (rule_case station) words outcome
 
 -- Of `patterns`: the instance is a station, and its patterns are listed.
 pub record IsListed (tells : Bool) (held : Held) (command : Option CommandView) (outcome : Outcome) : Type 0 where
@@ -83,25 +75,71 @@ pub record IsListed (tells : Bool) (held : Held) (command : Option CommandView) 
   pub read : IsInstance tells held instance (taken station)
   pub is : outcome ≡ text_outcome 0 (patterns_text (rule_case station))
 
+-- Of `check`: the instance is a station, and the proof isn't accepted. The line names the first refusal with its record.
+pub record IsProofRefused (tells : Bool) (held : Held) (command : Option CommandView) (outcome : Outcome) : Type 0 where
+  pub words : CheckView
+  pub asked : command ≡ Some (check words)
+  pub station : StationRecord
+  pub read : IsInstance tells held words.instance (taken station)
+  pub refusal : ProofRefused
+  pub proof_read : IsProof tells held words.proof (rule_case station) (Err refusal)
+  pub is : outcome ≡ text_outcome 5 (proof_refused_text refusal)
+
+-- what is given of an accepted proof: its bound, and where a plan is named, the plan's cost beside it. That plan is feasible.
+abbrev pub IsBoundTold : Bool → Held → Option (List ℕ) → CaseRecord → Bound → Outcome → Type 0
+IsBoundTold tells held None c bound outcome = outcome ≡ text_outcome 0 (accepted_text bound)
+IsBoundTold tells held (Some name) c bound outcome =
+    (plan : List ℕ) × IsPlan tells held name c (plan_taken plan) × IsFeasible c plan × (outcome ≡ text_outcome 0 (checked_text bound (cost c plan)))
+
+-- Of `check`: the instance is a station, the proof's bytes are the text of a tree that stands, and of its bound, whoever wrote
+-- them, and every feasible plan keeps to that bound. It is given.
+pub record IsChecked (tells : Bool) (held : Held) (command : Option CommandView) (outcome : Outcome) : Type 0 where
+  pub words : CheckView
+  pub asked : command ≡ Some (check words)
+  pub station : StationRecord
+  pub read : IsInstance tells held words.instance (taken station)
+  pub bound : Bound
+  pub proof_read : IsProof tells held words.proof (rule_case station) (Ok bound)
+  pub accepted : IfSome (held words.proof) (λ bytes. IsAccepted (rule_case station) bound bytes)
+  pub bounds : (plan : List ℕ) → IsFeasible (rule_case station) plan → KeepsTo (rule_case station) plan bound
+  pub told : IsBoundTold tells held words.plan (rule_case station) bound outcome
+
+-- Of `make`: the text of the station that the number makes is given.
+pub record IsMade (command : Option CommandView) (outcome : Outcome) : Type 0 where
+  pub words : MakeView
+  pub asked : command ≡ Some (make words)
+  pub is : outcome ≡ text_outcome 0 (made_text words.number words.trains)
+
+-- The proof that a command reads before a plan is accepted.
+abbrev pub IsProofTaken : Bool → Held → Option CommandView → CaseRecord → Type 0
+IsProofTaken tells held (Some (check words)) c = (bound : Bound) × IsProof tells held words.proof c (Ok bound)
+IsProofTaken tells held command c = Unit {0}
+
 -- The instance is a station, and the plan's text is no plan of it. The line names the first refusal with its record.
 pub record IsPlanRefused (tells : Bool) (held : Held) (command : Option CommandView) (outcome : Outcome) : Type 0 where
-  pub asked : AskedView
-  pub words : asked_of command ≡ Some asked
+  pub instance : List ℕ
+  pub asked : instance_of command ≡ Some instance
+  pub name : List ℕ
+  pub named : plan_of command ≡ Some name
   pub station : StationRecord
-  pub read : IsInstance tells held asked.instance (taken station)
+  pub read : IsInstance tells held instance (taken station)
+  pub proof : IsProofTaken tells held command (rule_case station)
   pub refusal : PlanRefused
-  pub plan_read : IsPlan tells held asked.plan (rule_case station) (plan_refused refusal)
+  pub plan_read : IsPlan tells held name (rule_case station) (plan_refused refusal)
   pub is : outcome ≡ text_outcome 4 (plan_refused_text refusal)
 
 -- The plan's text is a plan of the instance that isn't feasible. The line names its first two trains whose patterns are
 -- forbidden together.
 pub record IsConflict (tells : Bool) (held : Held) (command : Option CommandView) (outcome : Outcome) : Type 0 where
-  pub asked : AskedView
-  pub words : asked_of command ≡ Some asked
+  pub instance : List ℕ
+  pub asked : instance_of command ≡ Some instance
+  pub name : List ℕ
+  pub named : plan_of command ≡ Some name
   pub station : StationRecord
-  pub read : IsInstance tells held asked.instance (taken station)
+  pub read : IsInstance tells held instance (taken station)
+  pub proof : IsProofTaken tells held command (rule_case station)
   pub plan : List ℕ
-  pub plan_read : IsPlan tells held asked.plan (rule_case station) (plan_taken plan)
+  pub plan_read : IsPlan tells held name (rule_case station) (plan_taken plan)
   pub clash : Clash
   pub first : first_clash (rule_case station) plan ≡ Some clash
   pub infeasible : IsFeasible (rule_case station) plan → ⊥

@@ -1,7 +1,7 @@
 -- What a command reads, writes and reports.
 use Rattle.std.specs.Prelude.{◌≡◌, ◌⊎◌, ℕ, Bool, List, if◌then◌else◌, Option, None, Some}
 use Rattle.std.specs.Option.{option_map, option_and_then}
-use Rattle.command_words.specs.Command.{CommandView, ChartView, solve, cost, patterns, platforms, paths}
+use Rattle.command_words.specs.Command.{CommandView, ChartView, solve, check, cost, patterns, platforms, paths}
 use Rattle.station_reader.specs.Allowed.{StationRecord}
 use Rattle.station_reader.specs.Reading.{taken}
 use Rattle.diagram.specs.Text.{is_window}
@@ -48,18 +48,30 @@ asked_of command = option_and_then (λ asked. unless_bad (bad_window asked.repor
 
 -- the name of the instance that a command reads: a chart of minutes that no chart has reads none
 abbrev pub instance_of : Option CommandView → Option (List ℕ)
-instance_of (Some (solve instance file)) = Some instance
+instance_of (Some (solve words)) = Some words.instance
+instance_of (Some (check words)) = Some words.instance
 instance_of (Some (patterns instance)) = Some instance
 instance_of command = option_map (λ asked. asked.instance) (asked_of command)
 
+-- the name of the proof that a command reads
+abbrev pub proof_of : Option CommandView → Option (List ℕ)
+proof_of (Some (check words)) = Some words.proof
+proof_of command = None
+
 -- the name of the plan that a command reads
 abbrev pub plan_of : Option CommandView → Option (List ℕ)
+plan_of (Some (check words)) = words.plan
 plan_of command = option_map (λ asked. asked.plan) (asked_of command)
 
 -- the name of the file that gets the plan
 abbrev pub plan_file_of : Option CommandView → Option (List ℕ)
-plan_file_of (Some (solve instance file)) = file
+plan_file_of (Some (solve words)) = words.plan
 plan_file_of command = None
+
+-- the name of the file that gets the proof
+abbrev pub proof_file_of : Option CommandView → Option (List ℕ)
+proof_file_of (Some (solve words)) = words.proof
+proof_file_of command = None
 
 -- What the shelf holds under the name of the instance, where it tells, is read as a station.
 pub record IsTaken (tells : Bool) (held : Held) (command : Option CommandView) : Type 0 where
@@ -68,10 +80,11 @@ pub record IsTaken (tells : Bool) (held : Held) (command : Option CommandView) :
   pub station : StationRecord
   pub read : IsInstance tells held instance (taken station)
 
--- the names of the files that a command reads: the instance, and the plan where the instance is a station
+-- the names of the files that a command reads: the instance, and a proof and a plan where the instance is a station
 abbrev pub Reads : Bool → Held → Option CommandView → List ℕ → Type 0
-Reads tells held command name = (instance_of command ≡ Some name) ⊎ ((plan_of command ≡ Some name) × IsTaken tells held command)
+Reads tells held command name =
+    (instance_of command ≡ Some name) ⊎ (((proof_of command ≡ Some name) ⊎ (plan_of command ≡ Some name)) × IsTaken tells held command)
 
--- the name of the file that a command writes
+-- the names of the files that a command writes
 abbrev pub Writes : Option CommandView → List ℕ → Type 0
-Writes command name = plan_file_of command ≡ Some name
+Writes command name = (plan_file_of command ≡ Some name) ⊎ (proof_file_of command ≡ Some name)

@@ -1,9 +1,12 @@
 -- The files that a run reads.
-use Rattle.std.specs.Prelude.{◌≡◌, ℕ, Bool, List, take, IfSome, IsSome, IsTrue}
+use Rattle.std.specs.Prelude.{◌≡◌, ℕ, Bool, List, take, IfSome, IsSome, IsTrue, Result}
 use Rattle.std.specs.declared.option.Option.{Option}
 use Rattle.station_reader.specs.Reading.{Reading, reading}
 use Rattle.pair_prices.specs.Case.{CaseRecord}
 use Rattle.plan_cost.specs.PlanReading.{PlanReading, plan_reading}
+use Rattle.leaf_bounds.specs.declared.tree.Bound.{Bound}
+use Rattle.proof_rules.specs.declared.refused.ProofRefused.{ProofRefused}
+use Rattle.proof_rules.specs.Verdict.{proof_reading}
 
 -- what each name holds, where the shelf tells
 abbrev pub Held : Type 0
@@ -29,3 +32,11 @@ pub record IsPlan (tells : Bool) (held : Held) (name : List ℕ) (c : CaseRecord
   pub told : IsTrue tells → IsSome (held name)
   pub bytes : List ℕ
   pub read : plan_reading c bytes ≡ is
+
+-- What the shelf holds under the name, where it tells, is read as this: the bound of a proof of the case, or the first refusal
+-- with its record. The bytes that were taken are read so too.
+pub record IsProof (tells : Bool) (held : Held) (name : List ℕ) (c : CaseRecord) (is : Result Bound ProofRefused) : Type 0 where
+  pub whole : IfSome (held name) (λ whole. proof_reading c whole ≡ is)
+  pub told : IsTrue tells → IsSome (held name)
+  pub bytes : List ℕ
+  pub read : proof_reading c bytes ≡ is

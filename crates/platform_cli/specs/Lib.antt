@@ -4,6 +4,8 @@ pub mod Exact
 pub mod Given
 pub mod Instance
 pub mod Judge
+pub mod Check
+pub mod Fed
 pub mod Outcome
 pub mod Reading
 pub mod Report

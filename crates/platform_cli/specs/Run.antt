@@ -9,7 +9,9 @@ use Rattle.station_reader.specs.Allowed.{StationRecord}
 use Rattle.station_reader.specs.Reading.{taken}
 use Rattle.pair_prices.specs.Case.{rule_case}
 use Rattle.plan_cost.specs.PlanText.{plan_text}
-use Rattle.all_plans.specs.Least.{IsLeastPlan}
+use Rattle.pair_prices.specs.Plan.{IsFeasible}
+use Rattle.leaf_bounds.specs.declared.tree.Bound.{Bound}
+use Rattle.proof_file.specs.Accepted.{IsAccepted}
 use Rattle.platform_cli.specs.Given.{NewFile, Outcome}
 use Rattle.platform_cli.specs.Instance.{Held, IsInstance}
 use Rattle.platform_cli.specs.Outcome.{IsOutcome}
@@ -86,15 +88,31 @@ pub record IsEnded (tells : Bool) (command : Option CommandView) (status : ℕ) 
       ⊎ ((IsCutOff status × IsCut tells command old new faults_before faults_now before now)
       ⊎ (((status ≡ 6) ⊎ IsCutOff status) × IsNothing old new before now))
 
--- a name holds the text of a plan of least cost of the instance, where the shelf tells
-pub record HoldsLeast (tells : Bool) (held : Held) (now : Option (List ℕ)) (instance : List ℕ) : Type 0 where
+-- a name holds the text of a feasible plan of the instance, where the shelf tells
+pub record HoldsPlan (tells : Bool) (held : Held) (now : Option (List ℕ)) (instance : List ℕ) : Type 0 where
   pub station : StationRecord
   pub read : IsInstance tells held instance (taken station)
   pub plan : List ℕ
-  pub least : IsLeastPlan (rule_case station) plan
+  pub feasible : IsFeasible (rule_case station) plan
   pub holds : Now tells now (plan_text plan)
 
--- the plan's file holds what it held, or the text of a plan of least cost, or a write of it has failed
+-- a name holds a proof that is accepted for the instance, where the shelf tells
+pub record HoldsProof (tells : Bool) (held : Held) (now : Option (List ℕ)) (instance : List ℕ) : Type 0 where
+  pub station : StationRecord
+  pub read : IsInstance tells held instance (taken station)
+  pub bound : Bound
+  pub text : List ℕ
+  pub accepted : IsAccepted (rule_case station) bound text
+  pub holds : Now tells now text
+
+-- a name holds what it held, or what is said here, or a write of it has failed
+abbrev pub IsOldOr : Type 0 → Held → Held → Faults → Faults → List ℕ → Type 0
+IsOldOr Holds old new before now name = (new name ≡ old name) ⊎ (Holds ⊎ (before name < now name))
+
+-- the plan's file holds what it held, or the text of a feasible plan, or a write of it has failed
 abbrev pub IsPlanFile : Bool → Held → Held → Faults → Faults → List ℕ → List ℕ → Type 0
-IsPlanFile tells old new before now instance name =
-    (new name ≡ old name) ⊎ (HoldsLeast tells old (new name) instance ⊎ (before name < now name))
+IsPlanFile tells old new before now instance name = IsOldOr (HoldsPlan tells old (new name) instance) old new before now name
+
+-- the proof's file holds what it held, or a proof that is accepted, or a write of it has failed
+abbrev pub IsProofKept : Bool → Held → Held → Faults → Faults → List ℕ → List ℕ → Type 0
+IsProofKept tells old new before now instance name = IsOldOr (HoldsProof tells old (new name) instance) old new before now name

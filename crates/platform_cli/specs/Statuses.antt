@@ -12,8 +12,10 @@ ending_code endings.Done = 0
 ending_code endings.Usage = 2
 ending_code endings.InstanceRefused = 3
 ending_code endings.PlanRefused = 4
+ending_code endings.ProofRefused = 5
 ending_code endings.Conflict = 9
 ending_code endings.NoPlan = 10
+ending_code endings.Open = 11
 ending_code endings.Window = 12
 
 abbrev pub stop_code : Stop → ℕ

@@ -9,7 +9,9 @@ ghost use Rattle.plan_cost.specs.Verdict.{costs_of};
 ghost use Rattle.platform_cli.specs.Asked.{Reads, bad_window, requested};
 ghost use Rattle.platform_cli.specs.Judge.{IsJudged, IsJudgedFile};
 ghost use Rattle.platform_cli.specs.Outcome.{IsOutcome};
+ghost use Rattle.platform_cli.specs.Given.{text_outcome};
 ghost use Rattle.platform_cli.specs.Report.{report_text};
+ghost use Rattle.reports.specs.Text.{conflict_text, plan_refused_text};
 ghost use Rattle.platform_cli.specs.View.{asked_view, outcome_of};
 
 use crate::asked::{Asked, Report, bad_window};
@@ -18,7 +20,7 @@ use crate::output::{Ending, Output, Stop};
 use crate::plan_file::{GivenPlan, read_given_plan};
 use diagram::{ChartFault, path_chart, platform_chart};
 use pair_prices::Case;
-use plan_cost::{Costs, Plan, Verdict, judge};
+use plan_cost::{Clash, Costs, Plan, PlanRefused, Verdict, judge};
 use reports::{conflict_report, cost_report, plan_refused_report, window_report};
 use shelf::Shelf;
 use station_reader::Station;
@@ -56,7 +58,7 @@ fn judge_file<S: Shelf>(
     station: Station,
 ) -> Result<Output, Stop>
     requires { bad_window asked.now.report ≡ None }
-    ensures outcome { IfOk result (λ output. IsJudgedFile S.tells (S.held shelf.old) (asked_view asked.now) (rule_case (record_of station)) (outcome_of output)) }
+    ensures outcome { IfOk result (λ output. IsJudgedFile S.tells (S.held shelf.old) asked.now.plan.now (report_text asked.now.report (rule_case (record_of station))) (rule_case (record_of station)) (outcome_of output)) }
     ensures held { Same (S.held shelf.old) (S.held shelf.new) }
     ensures cause { IsErrOf result Stop.ReadFault → S.read_faults shelf.old asked.now.plan.now < S.read_faults shelf.new asked.now.plan.now }
     ensures no_write { IsErrOf result Stop.WriteFault → ⊥ }
@@ -65,10 +67,7 @@ fn judge_file<S: Shelf>(
     let case = Case::new(alloc, station)?;
     match read_given_plan(alloc, shelf, asked.plan, &case)? {
         GivenPlan::Taken(plan) => Ok(judged_output(alloc, &case, &plan, &asked.report)?),
-        GivenPlan::Refused(refused) => {
-            let text = plan_refused_report(alloc, &refused)?;
-            Ok(Output::of_text(alloc, Ending::PlanRefused, text))
-        }
+        GivenPlan::Refused(refused) => Ok(plan_refused_output(alloc, &refused)?),
     }
 }
 
@@ -80,18 +79,36 @@ fn judged_output(
 ) -> Result<Output, AllocError>
     requires fits { Fits case.now plan.now.choice }
     requires drawn { bad_window report.now ≡ None }
-    ensures { IfOk result (λ output. IsJudged report.now case.now plan.now.choice (outcome_of output)) }
+    ensures { IfOk result (λ output. IsJudged (report_text report.now case.now) case.now plan.now.choice (outcome_of output)) }
 {
     match judge(case, plan) {
         Verdict::Cost(costs) => {
             let text = feasible_text(alloc, case, plan, &costs, report)?;
             Ok(Output::of_text(alloc, Ending::Done, text))
         }
-        Verdict::Conflict(clash) => {
-            let text = conflict_report(alloc, case, &clash)?;
-            Ok(Output::of_text(alloc, Ending::Conflict, text))
-        }
+        Verdict::Conflict(clash) => conflict_output(alloc, case, &clash),
     }
+}
+
+pub(crate) fn plan_refused_output(
+    alloc: Global,
+    refused: &PlanRefused,
+) -> Result<Output, AllocError>
+    ensures { IfOk result (λ output. outcome_of output ≡ text_outcome 4 (plan_refused_text refused.now)) }
+{
+    let text = plan_refused_report(alloc, refused)?;
+    Ok(Output::of_text(alloc, Ending::PlanRefused, text))
+}
+
+pub(crate) fn conflict_output(
+    alloc: Global,
+    case: &Case,
+    clash: &Clash,
+) -> Result<Output, AllocError>
+    ensures { IfOk result (λ output. outcome_of output ≡ text_outcome 9 (conflict_text case.now.station clash.now)) }
+{
+    let text = conflict_report(alloc, case, clash)?;
+    Ok(Output::of_text(alloc, Ending::Conflict, text))
 }
 
 fn feasible_text(

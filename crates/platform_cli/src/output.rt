@@ -21,8 +21,10 @@ pub(crate) enum Ending {
     Usage,
     InstanceRefused,
     PlanRefused,
+    ProofRefused,
     Conflict,
     NoPlan,
+    Open,
     Window,
 }
 
@@ -35,8 +37,10 @@ impl Ending {
             Ending::Usage => 2,
             Ending::InstanceRefused => 3,
             Ending::PlanRefused => 4,
+            Ending::ProofRefused => 5,
             Ending::Conflict => 9,
             Ending::NoPlan => 10,
+            Ending::Open => 11,
             Ending::Window => 12,
         }
     }

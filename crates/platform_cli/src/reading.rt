@@ -29,7 +29,7 @@ pub(crate) fn read_whole<S: Shelf>(
 }
 
 // The length alone is said: a list of so many zeros would stand in each goal.
-fn zeros(alloc: Global, count: usize) -> Result<Vec<u8>, AllocError>
+pub(crate) fn zeros(alloc: Global, count: usize) -> Result<Vec<u8>, AllocError>
     ensures { IfOk result (λ piece. length piece.items ≡ count) }
 {
     vec![in alloc; 0u8; count]

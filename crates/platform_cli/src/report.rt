@@ -1,24 +1,81 @@
 // The texts that runs put.
 ghost use Rattle.std.specs.Prelude.{◌≡◌, IfOk, pos};
 ghost use Rattle.pair_prices.specs.Plan.{IsFeasible, cost};
-ghost use Rattle.platform_cli.specs.Report.{optimal_text, no_plan_text, refused_line, refused_text, class_text, wide_text};
+ghost use Rattle.platform_cli.specs.Report.{known_cost, known_timetable, line, spent_lines, open_text, optimal_text, no_plan_text, refused_line, refused_text, class_text};
+ghost use Rattle.platform_cli.specs.View.{known_plan};
+ghost use Rattle.branching.specs.Known.{IsKnown};
+ghost use Rattle.pair_prices.specs.Case.{CaseRecord};
 
-use all_plans::Best;
+use branching::{Priced, Stopped};
 use diagram::timetable;
 use pair_prices::Case;
+use plan_cost::Plan;
 use station_reader::{Refused, RefusedKind};
 use std::alloc::{AllocError, Global};
 
 /// The plan of least cost: its cost, and a line for each train.
-pub(crate) fn optimal_text(alloc: Global, case: &Case, best: &Best) -> Result<Vec<u8>, AllocError>
-    requires feasible { IsFeasible case.now best.now.plan.choice }
-    requires cost { best.now.cost ≡ pos (cost case.now best.now.plan.choice) }
-    ensures { IfOk result (λ text. text.items ≡ optimal_text case.now best.now.plan.choice) }
+pub(crate) fn optimal_text(
+    alloc: Global,
+    case: &Case,
+    plan: &Plan,
+    price: i64,
+) -> Result<Vec<u8>, AllocError>
+    requires feasible { IsFeasible case.now plan.now.choice }
+    requires cost { price ≡ pos (cost case.now plan.now.choice) }
+    ensures { IfOk result (λ text. text.items ≡ optimal_text case.now plan.now.choice) }
 {
-    let heading = format!(in alloc; "Optimal\ncost {}\n", best.cost)?;
+    let heading = format!(in alloc; "Optimal\ncost {price}\n")?;
     let mut text = heading.into_bytes();
-    text.extend_from_slice(&timetable(alloc, case, &best.plan)?)?;
+    text.extend_from_slice(&timetable(alloc, case, plan)?)?;
     Ok(text)
+}
+
+/// Where the splits are spent: the cost of the plan that is known, the bound, the splits, and a line for each train.
+pub(crate) fn open_text(
+    alloc: Global,
+    case: &Case,
+    stopped: &Stopped,
+    splits: u64,
+) -> Result<Vec<u8>, AllocError>
+    requires { IsKnown case.now stopped.now.plan }
+    ensures { IfOk result (λ text. text.items ≡ open_text case.now (known_plan stopped.now.plan) stopped.now.bound splits) }
+{
+    let mut text = Vec::from_slice(alloc, b"Open\n")?;
+    text.extend_from_slice(&known_cost_line(alloc, &stopped.plan)?)?;
+    text.extend_from_slice(&spent_lines(alloc, stopped.bound, splits)?)?;
+    text.extend_from_slice(&known_timetable(alloc, case, &stopped.plan)?)?;
+    Ok(text)
+}
+
+fn known_cost_line(alloc: Global, plan: &Option<Priced>) -> Result<Vec<u8>, AllocError>
+    ensures { (c : CaseRecord) → IsKnown c plan.now → IfOk result (λ text. text.items ≡ line (known_cost c (known_plan plan.now))) }
+{
+    match plan {
+        Some(priced) => {
+            let price = priced.cost;
+            let text = format!(in alloc; "cost {price}\n")?;
+            Ok(text.into_bytes())
+        }
+        None => Vec::from_slice(alloc, b"cost none\n"),
+    }
+}
+
+#[tactic(auto, unfolding(crate::specs::Report::spent_lines))]
+fn spent_lines(alloc: Global, bound: i128, splits: u64) -> Result<Vec<u8>, AllocError>
+    ensures { IfOk result (λ text. text.items ≡ spent_lines bound splits) }
+{
+    let text = format!(in alloc; "bound {bound}\nsplits {splits}\n")?;
+    Ok(text.into_bytes())
+}
+
+fn known_timetable(alloc: Global, case: &Case, plan: &Option<Priced>) -> Result<Vec<u8>, AllocError>
+    requires { IsKnown case.now plan.now }
+    ensures { IfOk result (λ text. text.items ≡ known_timetable case.now (known_plan plan.now)) }
+{
+    match plan {
+        Some(priced) => timetable(alloc, case, &priced.plan),
+        None => Ok(Vec::new(alloc)),
+    }
 }
 
 pub(crate) fn no_plan_text(alloc: Global) -> Result<Vec<u8>, AllocError>
@@ -32,13 +89,6 @@ pub(crate) fn refused_text(alloc: Global, refused: &Refused) -> Result<Vec<u8>, 
     ensures { IfOk result (λ text. text.items ≡ refused_text refused.now.kind refused.now.place) }
 {
     refused_line(alloc, class_text(refused.kind), refused.place.bytes())
-}
-
-/// The line of a station with too many plans to go through.
-pub(crate) fn wide_text(alloc: Global) -> Result<Vec<u8>, AllocError>
-    ensures { IfOk result (λ text. text.items ≡ wide_text) }
-{
-    refused_line(alloc, "11 Wide", b"/trains")
 }
 
 fn refused_line(alloc: Global, class: &str, place: &[u8]) -> Result<Vec<u8>, AllocError>

@@ -1,14 +1,14 @@
 // The top call.
-ghost use Rattle.std.specs.Prelude.{◌≡◌, ◌⊎◌, ◌<◌, ◌≤◌, ◌≢◌, List, ℕ, map, string_bytes, Contains, Option, None, Some};
+ghost use Rattle.std.specs.Prelude.{◌≡◌, ◌⊎◌, ◌<◌, ◌≤◌, ◌≢◌, List, ℕ, map, string_bytes, Contains, None, Some};
 ghost use Rattle.std.specs.Io.KnownBytes.{Keeps};
-ghost use Rattle.command_words.specs.Command.{command_of, patterns, solve};
+ghost use Rattle.command_words.specs.Command.{CheckView, MakeView, SolveView, check, command_of, make, patterns, solve};
 ghost use Rattle.shelf.specs.Outside.{Same, Rose};
 ghost use Rattle.station_reader.specs.Reading.{reading};
 ghost use Rattle.platform_cli.specs.declared.asked.Window.{Window};
-ghost use Rattle.platform_cli.specs.Answers.{IsUsage, IsWindow, IsUnread, IsWide, IsOptimal, IsNoPlan, IsListed, IsPlanRefused, IsConflict, IsReported};
+ghost use Rattle.platform_cli.specs.Answers.{IsUsage, IsWindow, IsUnread, IsOptimal, IsNoPlan, IsOpen, IsListed, IsMade, IsProofRefused, IsChecked, IsPlanRefused, IsConflict, IsReported};
 ghost use Rattle.platform_cli.specs.Asked.{AskedView, Reads, Writes, asked_of, bad_window_of};
-ghost use Rattle.platform_cli.specs.Exact.{NoCallFailed, SolveEnds, ListingEnds, ReportEnds, statuses};
-ghost use Rattle.platform_cli.specs.Run.{IsFinished, IsEnded, IsDone, IsCut, IsCutOff, IsNothing, IsPlanFile, WasGiven};
+ghost use Rattle.platform_cli.specs.Exact.{NoCallFailed, SolveEnds, CheckEnds, ListingEnds, ReportEnds, statuses};
+ghost use Rattle.platform_cli.specs.Run.{IsFinished, IsEnded, IsDone, IsCut, IsCutOff, IsNothing, IsPlanFile, IsProofKept, WasGiven};
 ghost use Rattle.platform_cli.specs.Statuses.{stop_code};
 
 use crate::delivery::deliver;
@@ -23,11 +23,13 @@ use std::alloc::Global;
 /// - 2: the words are no command. The output is the usage text.
 /// - 3: the instance was refused. The output is one line with the class and the place of the refusal.
 /// - 4: the plan was refused. The output is one line with the kind and the record of the refusal.
+/// - 5: the proof was refused. The output is one line with the kind and the record of the refusal.
 /// - 6: an input file couldn't be read. There is no output.
-/// - 7: the plan's file or the output couldn't be written. A front of the output may have been.
+/// - 7: the plan's file, the proof's or the output couldn't be written. A front of the output may have been.
 /// - 8: memory ran out. A front of the output may have been written.
 /// - 9: the plan isn't feasible. The output is one line with the first conflict.
 /// - 10: no plan is feasible.
+/// - 11: the splits are spent. The report is of what is known by then.
 /// - 12: no chart has the minutes that were asked for. The output is one line with them.
 #[derive(Clone, Copy, Debug, PartialEq, Eq)]
 pub struct Status {
@@ -36,25 +38,45 @@ pub struct Status {
 
 /// Runs the command that the words name, over the files of a shelf and an output. The words leave out the
 /// program's own name. A chart's minutes are tested first. Then the files are read, then the work is done, then the
-/// plan's file is written where one was asked for, and then the report is put line by line; the first step that
+/// plan's and the proof's file are written where they were asked for, and then the report is put line by line; the first step that
 /// fails ends the run.
 ///
 /// docs/FORMATS.md says how instances and plans are read, why they are refused, and what the lines of a report are.
 /// docs/RULES.md says which plans are feasible and what they cost.
 pub fn run<S: Shelf, K: Sink>(alloc: Global, words: &[String], shelf: &mut S, out: &mut K) -> Status
     // Status 0 of `solve`: what the shelf holds under INSTANCE is a station, the report names a feasible plan of it
-    // at the printed cost, no feasible plan costs less, and the plan's FILE has its text.
-    ensures optimal { (instance : List ℕ) (file : Option (List ℕ)) → command_of (map string_bytes words.now) ≡ Some (solve instance file) → result.code ≡ 0
+    // at the printed cost, no feasible plan costs less, the plan's FILE has its text, and the proof's FILE a proof that is
+    // accepted with the cost as its bound.
+    ensures optimal { (search : SolveView) → command_of (map string_bytes words.now) ≡ Some (solve search) → result.code ≡ 0
         → WasGiven (IsOptimal S.tells (S.held shelf.old) (command_of (map string_bytes words.now))) S.tells
         (S.held shelf.old) (S.held shelf.new) (K.written out.old) (K.written out.new) }
 
-    // Status 10: it is `solve`, of a station without a feasible plan, and the report says so.
+    // Status 10: it is `solve`, of a station without a feasible plan. The report says so, and the proof's FILE has a proof that
+    // is accepted with no plan.
     ensures no_plan { result.code ≡ 10 → WasGiven (IsNoPlan S.tells (S.held shelf.old) (command_of (map string_bytes words.now))) S.tells
+        (S.held shelf.old) (S.held shelf.new) (K.written out.old) (K.written out.new) }
+
+    // Status 11: it is `solve`, and the stated splits are spent: a tree that stands has just as many, at each of its splits the
+    // least prices sum to at most its bound, more splits could decide the station, and the bound is below the printed cost.
+    // The report names the best known plan, which costs at most what the greedy plan costs, or none where there is no greedy
+    // plan, and the tree's bound, which every feasible plan keeps to. The proof's FILE has that tree.
+    ensures stopped { result.code ≡ 11 → WasGiven (IsOpen S.tells (S.held shelf.old) (command_of (map string_bytes words.now))) S.tells
+        (S.held shelf.old) (S.held shelf.new) (K.written out.old) (K.written out.new) }
+
+    // Status 0 of `check`: whoever wrote the proof, every feasible plan keeps to the printed bound, and there is none where no
+    // plan is printed. A plan's cost is printed beside it, and `shown optimal` exactly where it is the bound.
+    ensures checked { (files : CheckView) → command_of (map string_bytes words.now) ≡ Some (check files) → result.code ≡ 0
+        → WasGiven (IsChecked S.tells (S.held shelf.old) (command_of (map string_bytes words.now))) S.tells
         (S.held shelf.old) (S.held shelf.new) (K.written out.old) (K.written out.new) }
 
     // Status 0 of `patterns`: what the shelf holds under INSTANCE is a station, and its patterns are listed.
     ensures listed { (instance : List ℕ) → command_of (map string_bytes words.now) ≡ Some (patterns instance) → result.code ≡ 0
         → WasGiven (IsListed S.tells (S.held shelf.old) (command_of (map string_bytes words.now))) S.tells
+        (S.held shelf.old) (S.held shelf.new) (K.written out.old) (K.written out.new) }
+
+    // Status 0 of `make`: the station that the number makes is given as text.
+    ensures made { (numbers : MakeView) → command_of (map string_bytes words.now) ≡ Some (make numbers) → result.code ≡ 0
+        → WasGiven (IsMade (command_of (map string_bytes words.now))) S.tells
         (S.held shelf.old) (S.held shelf.new) (K.written out.old) (K.written out.new) }
 
     // Status 0 of `cost`, `platforms` and `paths`: the plan's text is a plan of the station, it is feasible, and the
@@ -63,16 +85,16 @@ pub fn run<S: Shelf, K: Sink>(alloc: Global, words: &[String], shelf: &mut S, ou
         → WasGiven (IsReported S.tells (S.held shelf.old) (command_of (map string_bytes words.now))) S.tells
         (S.held shelf.old) (S.held shelf.new) (K.written out.old) (K.written out.new) }
 
-    // Status 3: the instance is read as the printed refusal at the printed place, or, of `solve`, it is a station with
-    // more than 10,000 lists of pattern numbers.
-    ensures instance_refused { result.code ≡ 3 →
-        WasGiven (IsUnread S.tells (S.held shelf.old) (command_of (map string_bytes words.now))) S.tells
-        (S.held shelf.old) (S.held shelf.new) (K.written out.old) (K.written out.new)
-        ⊎ WasGiven (IsWide S.tells (S.held shelf.old) (command_of (map string_bytes words.now))) S.tells
+    // Status 3: the instance is read as the printed refusal at the printed place.
+    ensures instance_refused { result.code ≡ 3 → WasGiven (IsUnread S.tells (S.held shelf.old) (command_of (map string_bytes words.now))) S.tells
         (S.held shelf.old) (S.held shelf.new) (K.written out.old) (K.written out.new) }
 
     // Status 4: the plan's text is refused with the printed kind at the printed record.
     ensures plan_refused { result.code ≡ 4 → WasGiven (IsPlanRefused S.tells (S.held shelf.old) (command_of (map string_bytes words.now))) S.tells
+        (S.held shelf.old) (S.held shelf.new) (K.written out.old) (K.written out.new) }
+
+    // Status 5: the proof's text is refused with the printed kind at the printed record.
+    ensures proof_refused { result.code ≡ 5 → WasGiven (IsProofRefused S.tells (S.held shelf.old) (command_of (map string_bytes words.now))) S.tells
         (S.held shelf.old) (S.held shelf.new) (K.written out.old) (K.written out.new) }
 
     // Status 9: the printed pair is the first of the plan that is forbidden.
@@ -111,19 +133,25 @@ pub fn run<S: Shelf, K: Sink>(alloc: Global, words: &[String], shelf: &mut S, ou
         ⊎ IsCut S.tells (command_of (map string_bytes words.now)) (S.held shelf.old) (S.held shelf.new)
         (S.write_faults shelf.old) (S.write_faults shelf.new) (K.written out.old) (K.written out.new) }
 
-    // No name changes but the plan's FILE of `solve`, which holds what it held, or the whole text of a plan of least
-    // cost, or a write of it has failed in this call.
+    // No name changes but the plan's FILE and the proof's FILE of `solve`. The first holds what it held, or the whole text of a
+    // feasible plan, the second what it held, or the whole text of a proof that is accepted; or a write of it has failed in this
+    // call.
     ensures unchanged { (name : List ℕ) → (Writes (command_of (map string_bytes words.now)) name → ⊥) → S.held shelf.new name ≡ S.held shelf.old name }
-    ensures plan_file { (instance name : List ℕ) → command_of (map string_bytes words.now) ≡ Some (solve instance (Some name))
-        → IsPlanFile S.tells (S.held shelf.old) (S.held shelf.new) (S.write_faults shelf.old) (S.write_faults shelf.new) instance name }
+    ensures plan_file { (search : SolveView) (name : List ℕ) → command_of (map string_bytes words.now) ≡ Some (solve search) → search.plan ≡ Some name
+        → IsPlanFile S.tells (S.held shelf.old) (S.held shelf.new) (S.write_faults shelf.old) (S.write_faults shelf.new) search.instance name }
+    ensures proof_file { (search : SolveView) (name : List ℕ) → command_of (map string_bytes words.now) ≡ Some (solve search) → search.proof ≡ Some name
+        → IsProofKept S.tells (S.held shelf.old) (S.held shelf.new) (S.write_faults shelf.old) (S.write_faults shelf.new) search.instance name }
 
     // Where no call has failed and memory was found, a command ends with one of its own statuses, and what the shelf
     // holds says which.
     ensures complete { NoCallFailed (S.read_faults shelf.old) (S.read_faults shelf.new) (S.write_faults shelf.old) (S.write_faults shelf.new) (K.faults out.old) (K.faults out.new)
         → result.code ≢ 8 → Contains (statuses (command_of (map string_bytes words.now))) result.code }
-    ensures solve_exact { (instance : List ℕ) (file : Option (List ℕ)) (whole : List ℕ) → command_of (map string_bytes words.now) ≡ Some (solve instance file) → S.held shelf.old instance ≡ Some whole
+    ensures solve_exact { (search : SolveView) (whole : List ℕ) → command_of (map string_bytes words.now) ≡ Some (solve search) → S.held shelf.old search.instance ≡ Some whole
         → NoCallFailed (S.read_faults shelf.old) (S.read_faults shelf.new) (S.write_faults shelf.old) (S.write_faults shelf.new) (K.faults out.old) (K.faults out.new)
-        → result.code ≢ 8 → SolveEnds (reading whole) result.code }
+        → result.code ≢ 8 → SolveEnds search.splits (reading whole) result.code }
+    ensures check_exact { (files : CheckView) (whole : List ℕ) → command_of (map string_bytes words.now) ≡ Some (check files) → S.held shelf.old files.instance ≡ Some whole
+        → NoCallFailed (S.read_faults shelf.old) (S.read_faults shelf.new) (S.write_faults shelf.old) (S.write_faults shelf.new) (K.faults out.old) (K.faults out.new)
+        → result.code ≢ 8 → CheckEnds (S.held shelf.old) files (reading whole) result.code }
     ensures patterns_exact { (instance whole : List ℕ) → command_of (map string_bytes words.now) ≡ Some (patterns instance) → S.held shelf.old instance ≡ Some whole
         → NoCallFailed (S.read_faults shelf.old) (S.read_faults shelf.new) (S.write_faults shelf.old) (S.write_faults shelf.new) (K.faults out.old) (K.faults out.new)
         → result.code ≢ 8 → ListingEnds (reading whole) result.code }

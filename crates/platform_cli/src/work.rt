@@ -10,8 +10,10 @@ ghost use Rattle.platform_cli.specs.Outcome.{IsOutcome};
 ghost use Rattle.platform_cli.specs.View.{asked_view, chart_asked, outcome_of};
 
 use crate::asked::{Asked, Report, Window};
+use crate::checking::check;
 use crate::judging::report_on_plan;
 use crate::listing::list_patterns;
+use crate::making::made_output;
 use crate::output::{Ending, Output, Stop};
 use crate::solve::solve;
 use command_words::{Chart, Command, read_words, usage};
@@ -52,6 +54,7 @@ fn command_output<S: Shelf>(
 {
     match command {
         Command::Solve(words) => solve(alloc, shelf, words),
+        Command::Check(words) => check(alloc, shelf, words),
         Command::Cost(words) => {
             let asked = Asked {
                 instance: words.instance,
@@ -69,6 +72,7 @@ fn command_output<S: Shelf>(
             let report = Report::Paths(window_of(chart));
             report_on_plan(alloc, shelf, &chart_asked(chart, report))
         }
+        Command::Make(words) => Ok(made_output(alloc, words)?),
     }
 }
 

@@ -5,5 +5,4 @@ pub mod Text
 pub mod Whole
 pub mod Writable
 pub mod Accepted
-pub mod Fault
 pub mod Laws

@@ -1,17 +1,16 @@
 use Rattle.std.proofs.Common.{Some, refl, ap}
-use Rattle.std.specs.Option.{option_map}
 use Rattle.command_words.specs.Command.{solve}
 use Rattle.station_reader.specs.Shown.{record_of}
-use Rattle.platform_cli.specs.View.{outcome_of, reading_of}
+use Rattle.platform_cli.specs.View.{outcome_of, reading_of, solve_view}
 use Rattle.platform_cli.proofs.Answering.{solved_answer, unread_answer}
 use Rattle.platform_cli.proofs.solve.solve.Goals as goal
 
 pub returns-in_ok-solved-in-Taken-clause-outcome : goal.returns-in_ok-solved-in-Taken-clause-outcome
 returns-in_ok-solved-in-Taken-clause-outcome g c =
-    solved_answer g.S.Shelf.tells (g.S.Shelf.held c.args.shelf.now) c.args.words.now.instance.now (option_map (λ name. name.now) c.args.words.now.plan) (reading_of c.in_ok-station.field-0) (record_of c.in-Taken.station)
+    solved_answer g.S.Shelf.tells (g.S.Shelf.held c.args.shelf.now) (solve_view c.args.words.now) (reading_of c.in_ok-station.field-0) (record_of c.in-Taken.station)
     (outcome_of c.in_ok-solved-in-Taken.field-0) c.in_ok-station.ensures.read (ap reading_of c.in-Taken.is) c.in_ok-solved-in-Taken.ensures
 
 pub returns-in_ok-refused_output-in-Refused-clause-outcome : goal.returns-in_ok-refused_output-in-Refused-clause-outcome
 returns-in_ok-refused_output-in-Refused-clause-outcome g c =
-    unread_answer g.S.Shelf.tells (g.S.Shelf.held c.args.shelf.now) (Some (solve c.args.words.now.instance.now (option_map (λ name. name.now) c.args.words.now.plan))) c.args.words.now.instance.now (reading_of c.in_ok-station.field-0)
+    unread_answer g.S.Shelf.tells (g.S.Shelf.held c.args.shelf.now) (Some (solve (solve_view c.args.words.now))) c.args.words.now.instance.now (reading_of c.in_ok-station.field-0)
     c.in-Refused.refused.kind c.in-Refused.refused.place (outcome_of c.in_ok-refused_output-in-Refused.field-0) refl c.in_ok-station.ensures.read (ap reading_of c.in-Refused.is) c.in_ok-refused_output-in-Refused.ensures

@@ -1,10 +1,17 @@
-use Rattle.std.specs.Option.{option_map}
 use Rattle.station_reader.specs.Shown.{record_of}
 use Rattle.pair_prices.specs.Case.{rule_case}
-use Rattle.platform_cli.proofs.Solving.{right_solution, station_solved}
+use Rattle.platform_cli.specs.View.{solve_view}
+use Rattle.platform_cli.proofs.SolveSteps.{solved_none, solved_open, solved_optimal}
 use Rattle.platform_cli.proofs.solve.solved.Goals as goal
+
+pub returns-in-Optimal : goal.returns-in-Optimal
+returns-in-Optimal c =
+    solved_optimal c.in_ok-case.case (rule_case (record_of c.args.station)) (solve_view c.args.words.now) c.in_ok-case.ensures c.optimal_output.result c.optimal_output.ensures
+
+pub returns-in-NoPlan : goal.returns-in-NoPlan
+returns-in-NoPlan c =
+    solved_none c.in_ok-case.case (rule_case (record_of c.args.station)) (solve_view c.args.words.now) c.in_ok-case.ensures c.no_plan_output.result c.no_plan_output.ensures
 
 pub returns : goal.returns
 returns c =
-    station_solved (option_map (λ name. name.now) c.args.file) (rule_case (record_of c.args.station)) c.in_ok-case.case c.in_ok-walked.walked c.solution_output.result c.in_ok-case.ensures
-    (right_solution c.in_ok-case.case c.in_ok-walked.walked c.in_ok-walked.ensures.answer c.in_ok-walked.ensures.wide) c.solution_output.ensures
+    solved_open c.in_ok-case.case (rule_case (record_of c.args.station)) (solve_view c.args.words.now) c.in_ok-case.ensures c.open_output.result c.open_output.ensures

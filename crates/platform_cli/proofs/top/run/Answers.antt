@@ -1,6 +1,7 @@
 use Rattle.std.proofs.Common.{map, string_bytes}
 use Rattle.command_words.specs.Command.{command_of}
-use Rattle.platform_cli.proofs.Ends.{quiet_finished, optimal_given, no_plan_given, listed_given, reported_given, refused_given, plan_refused_given, conflict_given, window_given, usage_given, bad_window_status, usage_status, nothing_given, done_of, front_given, kept_name, kept_plan, complete_given, solve_given, listing_given, report_given}
+use Rattle.command_words.proofs.Apart.{solve_apart}
+use Rattle.platform_cli.proofs.Ends.{quiet_finished, optimal_given, no_plan_given, open_given, checked_given, made_given, listed_given, reported_given, refused_given, proof_refused_given, plan_refused_given, conflict_given, window_given, usage_given, bad_window_status, usage_status, nothing_given, done_of, front_given, kept_name, kept_plan, kept_proof, complete_given, solve_given, check_given, listing_given, report_given}
 use Rattle.platform_cli.proofs.top.run.Goals as goal
 
 pub returns-clause-optimal : goal.returns-clause-optimal
@@ -8,6 +9,15 @@ returns-clause-optimal g c = optimal_given c.carry_out.ensures.ended
 
 pub returns-clause-no_plan : goal.returns-clause-no_plan
 returns-clause-no_plan g c = no_plan_given c.carry_out.ensures.ended
+
+pub returns-clause-stopped : goal.returns-clause-stopped
+returns-clause-stopped g c = open_given c.carry_out.ensures.ended
+
+pub returns-clause-checked : goal.returns-clause-checked
+returns-clause-checked g c = checked_given c.carry_out.ensures.ended
+
+pub returns-clause-made : goal.returns-clause-made
+returns-clause-made g c = made_given c.carry_out.ensures.ended
 
 pub returns-clause-listed : goal.returns-clause-listed
 returns-clause-listed g c = listed_given c.carry_out.ensures.ended
@@ -17,6 +27,9 @@ returns-clause-reported g c = reported_given c.carry_out.ensures.ended
 
 pub returns-clause-instance_refused : goal.returns-clause-instance_refused
 returns-clause-instance_refused g c = refused_given c.carry_out.ensures.ended
+
+pub returns-clause-proof_refused : goal.returns-clause-proof_refused
+returns-clause-proof_refused g c = proof_refused_given c.carry_out.ensures.ended
 
 pub returns-clause-plan_refused : goal.returns-clause-plan_refused
 returns-clause-plan_refused g c = plan_refused_given c.carry_out.ensures.ended
@@ -49,14 +62,21 @@ pub returns-clause-unchanged : goal.returns-clause-unchanged
 returns-clause-unchanged g c = kept_name c.carry_out.ensures.ended
 
 pub returns-clause-plan_file : goal.returns-clause-plan_file
-returns-clause-plan_file g c = kept_plan c.carry_out.ensures.ended
+returns-clause-plan_file g c = λ search name asked named. kept_plan c.carry_out.ensures.ended search name asked (solve_apart (map string_bytes c.args.words.now) search asked) named
+
+pub returns-clause-proof_file : goal.returns-clause-proof_file
+returns-clause-proof_file g c = λ search name asked named. kept_proof c.carry_out.ensures.ended search name asked (solve_apart (map string_bytes c.args.words.now) search asked) named
 
 pub returns-clause-complete : goal.returns-clause-complete
 returns-clause-complete g c = λ quiet memory. complete_given c.carry_out.ensures.ended
     (quiet_finished g.S.Shelf.tells (g.S.Shelf.held c.args.shelf.now) (command_of (map string_bytes c.args.words.now)) c.carry_out.result.code _ _ _ _ _ _ c.carry_out.ensures.read_fault c.carry_out.ensures.write_fault quiet memory)
 
 pub returns-clause-solve_exact : goal.returns-clause-solve_exact
-returns-clause-solve_exact g c = λ instance file whole words holds quiet memory. solve_given c.carry_out.ensures.ended instance file whole words holds
+returns-clause-solve_exact g c = λ search whole asked holds quiet memory. solve_given c.carry_out.ensures.ended search whole asked holds
+    (quiet_finished g.S.Shelf.tells (g.S.Shelf.held c.args.shelf.now) (command_of (map string_bytes c.args.words.now)) c.carry_out.result.code _ _ _ _ _ _ c.carry_out.ensures.read_fault c.carry_out.ensures.write_fault quiet memory)
+
+pub returns-clause-check_exact : goal.returns-clause-check_exact
+returns-clause-check_exact g c = λ files whole asked holds quiet memory. check_given c.carry_out.ensures.ended files whole asked holds
     (quiet_finished g.S.Shelf.tells (g.S.Shelf.held c.args.shelf.now) (command_of (map string_bytes c.args.words.now)) c.carry_out.result.code _ _ _ _ _ _ c.carry_out.ensures.read_fault c.carry_out.ensures.write_fault quiet memory)
 
 pub returns-clause-patterns_exact : goal.returns-clause-patterns_exact

@@ -4,6 +4,7 @@ use Rattle.command_words.specs.View.{view_of}
 use Rattle.platform_cli.specs.declared.asked.Report.TheVariants.{Platforms, Paths}
 use Rattle.platform_cli.specs.declared.asked.Window.{Window}
 use Rattle.platform_cli.specs.Asked.{AskedView, requested}
+use Rattle.platform_cli.specs.Outcome.{made}
 use Rattle.platform_cli.specs.View.{chart_asked}
 use Rattle.platform_cli.proofs.work.command_output.Goals as goal
 
@@ -24,3 +25,13 @@ returns-in-Paths-clause-cause g c =
     (ap (λ (command : Command). requested (Some (view_of command))) c.in-Paths.is
     ∙ ap (λ (w : Window). Some (chart_asked c.in-Paths.chart (Paths w))) (sym c.window_of-in-Paths.ensures)
     ∙ ap (λ (asked : AskedView). Some asked) (sym c.chart_asked-in-Paths.ensures))
+
+pub returns-in_ok-made_output-in-Make-clause-outcome : goal.returns-in_ok-made_output-in-Make-clause-outcome
+returns-in_ok-made_output-in-Make-clause-outcome g c = (
+  made,
+  record {
+    words = record { number = c.in-Make.words.number; trains = c.in-Make.words.trains };
+    asked = ap (λ (command : Command). Some (view_of command)) c.in-Make.is;
+    is = c.in_ok-made_output-in-Make.ensures;
+  },
+)

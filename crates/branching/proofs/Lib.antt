@@ -1,0 +1,13 @@
+pub mod OutlineLemmas
+pub mod ShapeLemmas
+pub mod PlanCounts
+pub mod KeyLemmas
+pub mod KnownLemmas
+pub mod LeafLemmas
+pub mod ListsLemmas
+pub mod BoundsLemmas
+pub mod StepLemmas
+pub mod SearchLemmas
+pub mod TakenLemmas
+pub mod AnswerLemmas
+pub mod CountLemmas

@@ -1,0 +1,11 @@
+pub mod Outline
+pub mod Bounds
+pub mod Lists
+pub mod Known
+pub mod Node
+pub mod Grown
+pub mod Searching
+pub mod Stored
+pub mod Keys
+pub mod Answer
+pub mod Ended

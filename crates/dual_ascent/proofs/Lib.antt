@@ -1,0 +1,4 @@
+pub mod EntryLemmas
+pub mod OrderLemmas
+pub mod TotalLemmas
+pub mod WorthLemmas

@@ -1,0 +1,17 @@
+//! The columns of the bound of a node, numbered by a layout, and a source of them that prices them by need:
+//! `docs/RULES.md`, "Fractional plans".
+#![tactic(auto)]
+
+mod arith;
+mod column;
+mod layout;
+mod paid;
+mod pick;
+mod prices;
+mod pricing;
+mod reduced;
+mod starts;
+
+pub use column::{Column, PairAt, WeightAt};
+pub use layout::Layout;
+pub use pricing::PatternPricing;

@@ -1,0 +1,6 @@
+mod Sums
+mod Meeting
+mod FullLists
+mod Held
+mod Costs
+mod Fractions

@@ -1,0 +1,4 @@
+pub mod Beside
+pub mod Least
+pub mod Taken
+pub mod Cheaper

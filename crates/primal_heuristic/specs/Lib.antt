@@ -1,0 +1,4 @@
+pub mod Greedy
+pub mod Looks
+pub mod Prices
+pub mod Better

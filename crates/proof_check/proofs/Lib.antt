@@ -1,0 +1,16 @@
+pub mod OrderLemmas
+pub mod DueLemmas
+pub mod TableLemmas
+pub mod SumLemmas
+pub mod AddLemmas
+pub mod RangeFacts
+pub mod LeafFacts
+pub mod LeafSteps
+pub mod WalkSteps
+pub mod NodeSteps
+pub mod CloseLemmas
+pub mod CloseSteps
+pub mod GoLemmas
+pub mod StandLemmas
+pub mod ReadSteps
+pub mod CheckLemmas

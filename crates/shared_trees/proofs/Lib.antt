@@ -1,0 +1,13 @@
+pub mod OnceLemmas
+pub mod ListedLemmas
+pub mod UseLemmas
+pub mod ExpandedLemmas
+pub mod NodeLemmas
+pub mod ThereLemmas
+pub mod TableLemmas
+pub mod SharedLeafLemmas
+pub mod SharedTreeLemmas
+pub mod BoundLemmas
+pub mod WritableLemmas
+pub mod WrittenLemmas
+pub mod OneLeafLemmas
