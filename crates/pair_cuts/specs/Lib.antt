@@ -1,0 +1,4 @@
+pub mod Cut
+pub mod Table
+pub mod Potentials
+pub mod Coupled
