@@ -16,6 +16,7 @@ use Rattle.leaf_bounds.specs.Tree.{plan_count, split_count, tree_bound}
 use Rattle.branching.specs.declared.found.Found.{Found}
 use Rattle.branching.specs.declared.found.Found.TheVariants.{Optimal, NoPlan, Open}
 use Rattle.branching.specs.declared.found.Priced.{Priced}
+use Rattle.branching.specs.declared.found.Root.{Root}
 use Rattle.branching.specs.declared.outline.Entry.{Entry}
 use Rattle.branching.specs.declared.part.Part.{Part}
 use Rattle.branching.specs.declared.waiting.Key.{Key}
@@ -135,8 +136,8 @@ module _ (c : CaseRecord) (entries : List Entry) (parts : List Part) (keys : Lis
           (counted_key slot (λ k. IsKeyAt c (length parts) s.part s.level k × (is_settled best (AtLeast k.bound) ≡ true)) keys
           (λ i d l. (s.grown.each_key i d l, settled i d l)) (h.waits e).key)
 
-  module _ (t : Tree) (same : t.nodes ≡ map (node_at s.part) entries) (splits : ℕ) (few : length parts ≤ splits + 1) where
-    pub optimal : (p : Priced) → best ≡ Some p → IsCase c → TreeBounds → IsOptimal c splits (record { plan = p.plan; cost = p.cost; tree = t })
+  module _ (t : Tree) (r : Root) (same : t.nodes ≡ map (node_at s.part) entries) (splits : ℕ) (few : length parts ≤ splits + 1) where
+    pub optimal : (p : Priced) → best ≡ Some p → IsCase c → TreeBounds → IsOptimal c splits (record { plan = p.plan; cost = p.cost; tree = t; root = r })
     optimal p e case law =
         let known = known_plan c best p e s.known in
         let feasible = known.priced.feasible in
@@ -153,7 +154,7 @@ module _ (c : CaseRecord) (entries : List Entry) (parts : List Part) (keys : Lis
               (law c case (leaf_tree s.part s.tree) (proof_stands c entries parts keys best s t same) p.plan.choice feasible);
         }
 
-    pub no_plan : best ≡ None → IsNoPlan c splits (record { tree = t })
+    pub no_plan : best ≡ None → IsNoPlan c splits (record { tree = t; root = r })
     no_plan e = record {
       proof = leaf_tree s.part s.tree;
       shown = shown c entries parts keys best s t same splits few;
@@ -181,7 +182,7 @@ more_splits c splits h l = below_bound splits (plan_count (full_lists c.book)) h
 
 module _ (c : CaseRecord) (entries : List Entry) (parts : List Part) (keys : List Key) (x : Key) (best : Option Priced)
     (s : IsSearch c entries parts (x ∷ keys) best) (least : All (λ k. x.bound ≤ℤ k.bound) keys) (unsettled : is_settled best (AtLeast x.bound) ≡ false)
-    (t : Tree) (same : t.nodes ≡ map (node_at s.part) entries) (splits : ℕ) (short : splits < 2 ^ 64) (spent : length parts ≡ splits + 1) where
+    (t : Tree) (r : Root) (same : t.nodes ≡ map (node_at s.part) entries) (splits : ℕ) (short : splits < 2 ^ 64) (spent : length parts ≡ splits + 1) where
   key_stands : 1 ≤ count_by (is_leaf x.slot) (entries_of s.tree)
   key_stands =
       let once = key_once c entries parts keys x best s least unsettled in
@@ -204,7 +205,7 @@ module _ (c : CaseRecord) (entries : List Entry) (parts : List Part) (keys : Lis
       (λ ns h. two_of ns (key_waits c (length parts) s.part keys x best s.level s.tree s.grown least unsettled ns h).open_part.undecided)
       (full_lists c.book) s.tree s.grown.leaves key_stands)
 
-  pub open_answer : IsOpen c splits (record { plan = best; bound = x.bound; tree = t })
+  pub open_answer : IsOpen c splits (record { plan = best; bound = x.bound; tree = t; root = r })
   open_answer = record {
     proof = leaf_tree s.part s.tree;
     shown = shown c entries parts (x ∷ keys) best s t same splits (omega (arith, spent));

@@ -120,11 +120,11 @@ plan_within c lists wide fits one part = λ t h.
     part t (slice_index (plan_of lists) t)
     (subst (λ (n : ℕ). Contains (list_of lists t) n) (sym (plan_at lists t)) (Contains-get_or (list_of lists t) 0 0 (omega (arith, single))))
 
-keeps_below : (c : CaseRecord) (plan : List ℕ) (b : Bound) (z : ℤ) → z ≡ pos (cost c plan) → KeepsTo c plan b → IsNoLess b (AtLeast z)
+pub keeps_below : (c : CaseRecord) (plan : List ℕ) (b : Bound) (z : ℤ) → z ≡ pos (cost c plan) → KeepsTo c plan b → IsNoLess b (AtLeast z)
 keeps_below c plan Nothing z e h = h
 keeps_below c plan (AtLeast n) z e h = omega (arith, ints, e, h)
 
-none_below : (b : Bound) → IsNoLess b Nothing
+pub none_below : (b : Bound) → IsNoLess b Nothing
 none_below Nothing = tt
 none_below (AtLeast n) = tt
 

@@ -26,7 +26,7 @@ judged_cost c plan k e = ap (λ x. x.total) (costs_by (first_clash c plan) k (co
 pub le_of : (a b : ℤ) → int_le a b ≡ true → a ≤ℤ b
 le_of a b h = grind (arith, ints)
 
-of_le : (a b : ℤ) → a ≤ℤ b → int_le a b ≡ true
+pub of_le : (a b : ℤ) → a ≤ℤ b → int_le a b ≡ true
 of_le a b h = grind (arith, ints)
 
 above_of : (a b : ℤ) → int_le a b ≡ false → b ≤ℤ a

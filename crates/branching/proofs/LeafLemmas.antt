@@ -32,6 +32,10 @@ no_less_twice (AtLeast n) Nothing (AtLeast k) h g = absurd g
 no_less_twice (AtLeast n) (AtLeast m) Nothing h g = tt
 no_less_twice (AtLeast n) (AtLeast m) (AtLeast k) h g = omega (arith, ints, h, g)
 
+pub no_less_same : (b : Bound) → IsNoLess b b
+no_less_same Nothing = tt
+no_less_same (AtLeast n) = omega (arith, ints)
+
 -- one more leaf is seen
 pub seen_more : (bound : Leaf → Bound) (xs ys : List Leaf) (x : Leaf) (old new : Bound) → ys ≡ xs ++ x ∷ [] → IsNoLess old new → IsNoLess (bound x) new
     → (l : Leaf) → Contains ys l ⊎ IsNoLess (bound l) old → Contains xs l ⊎ IsNoLess (bound l) new

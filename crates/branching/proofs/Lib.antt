@@ -11,3 +11,5 @@ pub mod SearchLemmas
 pub mod TakenLemmas
 pub mod AnswerLemmas
 pub mod CountLemmas
+pub mod FractionLemmas
+pub mod RootLemmas

@@ -6,6 +6,7 @@ use Rattle.std.proofs.lemmas.Bool.{cases_eq}
 use Rattle.std.proofs.lemmas.Bool.Decides.{nat_tests}
 use Rattle.std.proofs.lemmas.Int.{ints}
 use Rattle.std.proofs.lemmas.List.{append-nil, get_or-set_same, get_or-set_other, length_push, get_or_push, get_or_append_left}
+use Rattle.std.proofs.lemmas.List.Elements.{All-weaker}
 use Rattle.std.proofs.lemmas.List.Sorted.{All-permutation}
 use Rattle.std.proofs.lemmas.Option.{get_or_from_slice_get, slice_get-get_or, slice_get_within}
 use Rattle.std.proofs.Math.ListN.{length-set}
@@ -180,6 +181,10 @@ module _ (c : CaseRecord) (entries : List Entry) (parts : List Part) (keys : Lis
     more =
         grown_more c (length parts) s.part keys x best s.level s.tree s.grown least unsettled two low high new some_keys new_keys o p
         (subst (λ (q : Part). AreChildren c q two) (s.each_part x.slot old at) children) stored_low stored_high dear dear_low dear_high first_keys second_keys
+
+    -- no key is below that of the leaf
+    pub split_above : All (λ k. x.bound ≤ℤ k.bound) new_keys
+    split_above = All-weaker (IsKeyAt c (length parts + 1) after x.bound) (λ (k : Key). x.bound ≤ℤ k.bound) (λ k h. h.above) new_keys more.each_key
 
     count_new : length new_parts ≡ length parts + 1
     count_new = ap length placed ∙ placed_count parts x.slot low high key_there

@@ -9,3 +9,4 @@ pub mod Stored
 pub mod Keys
 pub mod Answer
 pub mod Ended
+pub mod RootLine

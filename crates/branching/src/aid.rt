@@ -10,10 +10,8 @@ use pair_prices::Case;
 use patterns::Allowed;
 use std::alloc::{AllocError, Global};
 
-/// How far the ascent goes for the part of all plans, and for a part of a split. It ends before where it has shown that no
-/// plan is cheaper than the known one, so the first is for what is hard, and the second keeps a split within milliseconds.
-const ROOT_STEPS: u32 = 1_500;
-
+/// How far the ascent goes for a part of a split: it keeps a split within milliseconds. It ends before where it has shown that no
+/// plan is cheaper than the known one.
 const PART_STEPS: u32 = 150;
 
 /// What helps a part to a strong bound.
@@ -23,20 +21,6 @@ pub(crate) struct Aid<'a> {
     pub meetings: &'a Meetings,
     /// The cost of the best known plan.
     pub known: Option<i64>,
-}
-
-/// A leaf by ascent for the part of all plans.
-pub(crate) fn root_leaves(
-    alloc: Global,
-    case: &Case,
-    allowed: &Allowed,
-    aid: &Aid,
-) -> Result<Vec<Leaf>, AllocError>
-    requires fits { FitsBook allowed.now.lists case.now.book }
-    requires meetings { AreMeetings case.now aid.now.meetings.now }
-    ensures { IfOk result (λ v. All (LeafStands case.now allowed.now.lists) v.items) }
-{
-    climbed(alloc, case, allowed, aid, None, ROOT_STEPS)
 }
 
 /// A leaf by ascent for a part of lists for which the seed stood.
@@ -51,26 +35,11 @@ pub(crate) fn part_leaves(
     requires meetings { AreMeetings case.now aid.now.meetings.now }
     ensures { IfOk result (λ v. All (LeafStands case.now allowed.now.lists) v.items) }
 {
-    climbed(alloc, case, allowed, aid, Some(seed), PART_STEPS)
-}
-
-fn climbed(
-    alloc: Global,
-    case: &Case,
-    allowed: &Allowed,
-    aid: &Aid,
-    seed: Option<&Leaf>,
-    iterations: u32,
-) -> Result<Vec<Leaf>, AllocError>
-    requires fits { FitsBook allowed.now.lists case.now.book }
-    requires meetings { AreMeetings case.now aid.now.meetings.now }
-    ensures { IfOk result (λ v. All (LeafStands case.now allowed.now.lists) v.items) }
-{
     let hints = Hints {
         meetings: aid.meetings,
         known: aid.known,
-        seed,
-        iterations,
+        seed: Some(seed),
+        iterations: PART_STEPS,
     };
     let found = climb(alloc, case, allowed, &hints)?;
     let mut leaves = Vec::new(alloc);

@@ -2,6 +2,8 @@ ghost use Rattle.branching.specs.Answer.{is_open, AnswerIs};
 ghost use Rattle.branching.specs.Ended.{node_at, AreOthersKept, ArePartsOf, IsPartOf};
 ghost use Rattle.branching.specs.Known.{is_settled};
 ghost use Rattle.branching.specs.Outline.{is_leaf};
+ghost use Rattle.branching.specs.Bounds.{IsNoLess};
+ghost use Rattle.branching.specs.RootLine.{root_bound, root_of, IsOpenAboveRoot};
 ghost use Rattle.branching.specs.Searching.{AreSlots, IsSearch};
 ghost use Rattle.branching.specs.declared.part.Part.{Part};
 ghost use Rattle.leaf_bounds.specs.declared.tree.Bound.TheVariants.{AtLeast};
@@ -24,6 +26,8 @@ pub(crate) fn decided(alloc: Global, case: &Case, search: Search) -> Result<Foun
     requires settled { All (λ other. is_settled search.best (AtLeast other.bound) ≡ true) search.waiting }
     ensures answer { (splits : ℕ) → length search.parts.items ≤ splits + 1 → IfOk result (AnswerIs case.now splits) }
     ensures closed { IfOk result (λ f. is_open f ≡ false) }
+    ensures root { IfOk result (λ f. root_of f ≡ search.root) }
+    ensures above { IfOk result (IsOpenAboveRoot case.now) }
 {
     let _limits = case.station();
     bound_of_tree();
@@ -32,6 +36,7 @@ pub(crate) fn decided(alloc: Global, case: &Case, search: Search) -> Result<Foun
         parts,
         waiting: _,
         best,
+        root,
     } = search;
     let tree = tree_of(alloc, &outline, parts)?;
     match best {
@@ -39,8 +44,9 @@ pub(crate) fn decided(alloc: Global, case: &Case, search: Search) -> Result<Foun
             plan: priced.plan,
             cost: priced.cost,
             tree,
+            root,
         })),
-        None => Ok(Found::NoPlan(Shown { tree })),
+        None => Ok(Found::NoPlan(Shown { tree, root })),
     }
 }
 
@@ -54,19 +60,24 @@ pub(crate) fn stopped(
     requires search { IsSearch case.now search.outline search.parts.items (key ∷ search.waiting) search.best }
     requires least { All (λ other. key.bound ≤ℤ other.bound) search.waiting }
     requires unsettled { is_settled search.best (AtLeast key.bound) ≡ false }
-    ensures { (splits : ℕ) → splits < 2 ^ 64 → length search.parts.items ≡ splits + 1 → IfOk result (AnswerIs case.now splits) }
+    requires above { IsNoLess (root_bound case.now search.root.value) (AtLeast key.bound) }
+    ensures answer { (splits : ℕ) → splits < 2 ^ 64 → length search.parts.items ≡ splits + 1 → IfOk result (AnswerIs case.now splits) }
+    ensures root { IfOk result (λ f. root_of f ≡ search.root) }
+    ensures above { IfOk result (IsOpenAboveRoot case.now) }
 {
     let Search {
         outline,
         parts,
         waiting: _,
         best,
+        root,
     } = search;
     let tree = tree_of(alloc, &outline, parts)?;
     Ok(Found::Open(Stopped {
         plan: best,
         bound: key.bound,
         tree,
+        root,
     }))
 }
 

@@ -36,7 +36,7 @@ pub(crate) fn best_leaf(
 }
 
 /// The leaf with what a check says of it.
-fn valued(case: &Case, allowed: &Allowed, leaf: Leaf) -> Valued
+pub(crate) fn valued(case: &Case, allowed: &Allowed, leaf: Leaf) -> Valued
     requires fits { FitsBook allowed.now.lists case.now.book }
     requires stands { LeafStands case.now allowed.now.lists leaf }
     ensures valued { IsValued case.now allowed.now.lists result }

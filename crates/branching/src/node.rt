@@ -1,26 +1,31 @@
-ghost use Rattle.branching.specs.Bounds.{IsNoLess};
+ghost use Rattle.branching.specs.Bounds.{least_sum, IsAtLeast, IsNoLess};
 ghost use Rattle.branching.specs.Lists.{IsUndecided, IsCut};
 ghost use Rattle.branching.specs.Grown.{AreChildren};
 ghost use Rattle.branching.specs.Node.{cost_bound, IsNode};
+ghost use Rattle.branching.specs.RootLine.{root_bound, IsRoot};
 ghost use Rattle.leaf_bounds.specs.declared.leaf.Leaf.{Leaf};
 ghost use Rattle.leaf_bounds.specs.declared.tree.Bound.{Bound};
 ghost use Rattle.leaf_bounds.specs.Made.{plan_of, ArePartOf, HasOnePlan, LacksMember};
 ghost use Rattle.leaf_bounds.specs.Shown.{bound_of_leaf, LeafStands};
+ghost use Rattle.master_lp.specs.Bounds.{MayWeaken, column_count};
 ghost use Rattle.pair_classes.specs.Meetings.{AreMeetings};
 ghost use Rattle.patterns.specs.Allowed.{full_lists, FitsBook, Lists};
-ghost use Rattle.std.specs.Prelude.{◌≡◌, slice_index, All, Contains, IfOk};
+ghost use Rattle.std.specs.Prelude.{◌≡◌, ◌≤◌, length, pos, slice_index, All, Contains, IfOk, IfSome};
 
-use crate::aid::{Aid, part_leaves, root_leaves};
+use crate::aid::{Aid, part_leaves};
 use crate::choice::choose_cut;
-use crate::found::Priced;
+use crate::found::{Priced, Root};
 use crate::kind::{Kind, kind_of};
 use crate::known::priced;
-use crate::leaf::best_leaf;
+use crate::leaf::{best_leaf, valued};
 use crate::part::Part;
+use crate::root_line::{RootLeaf, root_leaf};
 use leaf_bounds::{Bound, Cut, Leaf, fixed_leaf, missing_leaf, narrow_leaf, plain_leaf};
+use master_lp::Limits;
 use pair_prices::Case;
 use patterns::{Allowed, TwoParts};
 use plan_cost::Plan;
+use ratio::Width;
 use station_reader::Sequence;
 use std::alloc::{AllocError, Global};
 
@@ -40,6 +45,13 @@ pub(crate) struct Node {
     pub plan: Option<Priced>,
 }
 
+/// The part of all plans, and what was known of it before any split.
+#[derive(Drop)]
+pub(crate) struct RootNode {
+    pub node: Node,
+    pub root: Root,
+}
+
 /// A split of a part, and its two sides.
 #[derive(Drop)]
 pub(crate) struct Children {
@@ -48,20 +60,82 @@ pub(crate) struct Children {
     pub rest: Node,
 }
 
-/// The part of all plans.
-pub(crate) fn root(alloc: Global, case: &Case, aid: &Aid) -> Result<Node, AllocError>
+/// The part of all plans, and the root line. Its bound isn't below the line.
+pub(crate) fn root_node(
+    alloc: Global,
+    case: &Case,
+    aid: &Aid,
+    limits: &Limits,
+    width: &mut Width,
+) -> Result<RootNode, AllocError>
     requires { AreMeetings case.now aid.now.meetings.now }
-    ensures { IfOk result (IsNode case.now (full_lists case.now.book)) }
+    ensures node { IfOk result (λ r. IsNode case.now (full_lists case.now.book) r.node) }
+    ensures root { IfOk result (λ r. IsRoot case.now r.root) }
+    ensures above { IfOk result (λ r. IsNoLess (root_bound case.now r.root.value) r.node.bound) }
+    ensures cause { IfOk result (λ r. IfSome r.root.weak
+        (MayWeaken limits.now (length case.now.book) (column_count case.now (full_lists case.now.book)) width.old width.new)) }
+    ensures ledger { width.old ≤ width.new }
 {
     let allowed = Allowed::all(alloc, case.book())?;
+    let RootLeaf { root, leaf } = root_leaf(alloc, case, &allowed, aid, limits, width)?;
+    let node = first_node(alloc, case, allowed, leaf, root.weak.is_none())?;
+    Ok(RootNode { node, root })
+}
+
+/// The part of all plans, with a leaf for it. If the leaf's value is the least cost of a fractional plan, it is the one that the
+/// search begins with, unless there is nothing to decide.
+fn first_node(
+    alloc: Global,
+    case: &Case,
+    allowed: Allowed,
+    leaf: Leaf,
+    exact: bool,
+) -> Result<Node, AllocError>
+    requires fits { FitsBook allowed.lists case.now.book }
+    requires stands { LeafStands case.now allowed.lists leaf }
+    requires plain { IsAtLeast (pos (least_sum case.now allowed.lists)) (bound_of_leaf case.now allowed.lists leaf) }
+    ensures node { IfOk result (IsNode case.now allowed.lists) }
+    ensures above { IfOk result (λ n. IsNoLess (bound_of_leaf case.now allowed.lists leaf) n.bound) }
+{
     match kind_of(&allowed) {
         Kind::Missing => missing_node(alloc, case, allowed),
         Kind::Fixed => fixed_node(alloc, case, allowed),
-        Kind::Open => {
-            let leaves = root_leaves(alloc, case, &allowed, aid)?;
-            open_node(alloc, case, allowed, leaves)
-        }
+        Kind::Open => if exact {
+            Ok(exact_node(case, allowed, leaf))
+        } else {
+            weak_node(alloc, case, allowed, leaf)
+        },
     }
+}
+
+/// A part that may be split, with this leaf.
+fn exact_node(case: &Case, allowed: Allowed, leaf: Leaf) -> Node
+    requires fits { FitsBook allowed.lists case.now.book }
+    requires undecided { IsUndecided allowed.lists }
+    requires stands { LeafStands case.now allowed.lists leaf }
+    requires plain { IsAtLeast (pos (least_sum case.now allowed.lists)) (bound_of_leaf case.now allowed.lists leaf) }
+    ensures node { IsNode case.now allowed.lists result }
+    ensures above { IsNoLess (bound_of_leaf case.now allowed.lists leaf) result.bound }
+{
+    let Valued { leaf, bound } = valued(case, &allowed, leaf);
+    Node {
+        part: Part { allowed, leaf },
+        bound,
+        plan: None,
+    }
+}
+
+/// A part that may be split, with the better of its plain leaf and this leaf.
+fn weak_node(alloc: Global, case: &Case, allowed: Allowed, leaf: Leaf) -> Result<Node, AllocError>
+    requires fits { FitsBook allowed.lists case.now.book }
+    requires undecided { IsUndecided allowed.lists }
+    requires stands { LeafStands case.now allowed.lists leaf }
+    ensures node { IfOk result (IsNode case.now allowed.lists) }
+    ensures above { IfOk result (λ n. IsNoLess (bound_of_leaf case.now allowed.lists leaf) n.bound) }
+{
+    let mut leaves = Vec::new(alloc);
+    leaves.push(leaf)?;
+    open_node(alloc, case, allowed, leaves)
 }
 
 /// Splits a part. Neither side's bound is below that of the part.

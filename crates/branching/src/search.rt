@@ -1,19 +1,24 @@
 ghost use Rattle.branching.specs.Known.{is_settled};
-ghost use Rattle.pair_classes.specs.Meetings.{AreMeetings};
+ghost use Rattle.branching.specs.RootLine.{AreAboveRoot, IsRoot};
 ghost use Rattle.branching.specs.Searching.{IsSearch};
-ghost use Rattle.std.specs.Prelude.{◌≡◌, ◌+◌, ◌<◌, ◌++◌, ◌∷◌, [], ◌≤ℤ◌, false, length, slice_set, All, IfOk};
+ghost use Rattle.master_lp.specs.Bounds.{MayWeaken, column_count};
+ghost use Rattle.pair_classes.specs.Meetings.{AreMeetings};
+ghost use Rattle.patterns.specs.Allowed.{full_lists};
+ghost use Rattle.std.specs.Prelude.{◌≡◌, ◌+◌, ◌<◌, ◌≤◌, ◌++◌, ◌∷◌, [], ◌≤ℤ◌, false, length, slice_set, All, IfOk, IfSome};
 ghost use Rattle.leaf_bounds.specs.declared.tree.Bound.TheVariants.{AtLeast};
 
 use crate::aid::Aid;
-use crate::found::Priced;
+use crate::found::{Priced, Root};
 use crate::known::{cheaper, cost_of, first_plan, is_settled};
-use crate::node::{Children, Node, root, split_part};
+use crate::node::{Children, Node, RootNode, root_node, split_part};
 use crate::outline::Outline;
 use crate::part::Part;
 use crate::waiting::{Key, Waiting};
+use master_lp::Limits;
 use pair_classes::Meetings;
 use pair_prices::Case;
 use patterns::Allowed;
+use ratio::Width;
 use station_reader::Sequence;
 use std::alloc::{AllocError, Global};
 
@@ -26,20 +31,34 @@ pub(crate) struct Search {
     pub waiting: Waiting,
     /// The cheapest plan that is known.
     pub best: Option<Priced>,
+    /// What was known of all plans before any split.
+    pub root: Root,
 }
 
 /// A search with the part of all plans alone.
-pub(crate) fn start(alloc: Global, case: &Case, meetings: &Meetings) -> Result<Search, AllocError>
+pub(crate) fn start(
+    alloc: Global,
+    case: &Case,
+    meetings: &Meetings,
+    limits: &Limits,
+    width: &mut Width,
+) -> Result<Search, AllocError>
     requires { AreMeetings case.now meetings.now }
     ensures search { IfOk result (λ s. IsSearch case.now s.outline s.parts.items s.waiting s.best) }
     ensures one { IfOk result (λ s. length s.parts.items ≡ 1) }
+    ensures root { IfOk result (λ s. IsRoot case.now s.root) }
+    ensures above { IfOk result (λ s. AreAboveRoot case.now s.root s.waiting) }
+    ensures cause { IfOk result (λ s. IfSome s.root.weak
+        (MayWeaken limits.now (length case.now.book) (column_count case.now (full_lists case.now.book)) width.old width.new)) }
+    ensures ledger { width.old ≤ width.new }
 {
     let greedy = first_plan(alloc, case)?;
     let aid = Aid {
         meetings,
         known: cost_of(&greedy),
     };
-    let Node { part, bound, plan } = root(alloc, case, &aid)?;
+    let RootNode { node, root } = root_node(alloc, case, &aid, limits, width)?;
+    let Node { part, bound, plan } = node;
     let best = cheaper(greedy, plan);
     let mut waiting = Waiting::new(alloc);
     waiting.add(&best, &bound, 0, 0)?;
@@ -51,6 +70,7 @@ pub(crate) fn start(alloc: Global, case: &Case, meetings: &Meetings) -> Result<S
         parts,
         waiting,
         best,
+        root,
     })
 }
 
@@ -68,12 +88,16 @@ pub(crate) fn split_leaf(
     requires unsettled { is_settled search.best (AtLeast key.bound) ≡ false }
     ensures search { IfOk result (λ s. IsSearch case.now s.outline s.parts.items s.waiting s.best) }
     ensures one_more { IfOk result (λ s. length s.parts.items ≡ length search.parts.items + 1) }
+    // No bound is below that of the leaf that was split.
+    ensures above { IfOk result (λ s. All (λ other. key.bound ≤ℤ other.bound) s.waiting) }
+    ensures root { IfOk result (λ s. s.root ≡ search.root) }
 {
     let Search {
         mut outline,
         parts,
         mut waiting,
         best,
+        root,
     } = search;
     let aid = Aid {
         meetings,
@@ -104,6 +128,7 @@ pub(crate) fn split_leaf(
         parts,
         waiting,
         best,
+        root,
     })
 }
 

@@ -1,12 +1,11 @@
 -- The files that `solve` writes are apart.
-use Rattle.std.proofs.Common.{◌≡◌, ℕ, Bool, true, false, cond, List, [], ◌∷◌, drop, Option, Some, None, codes, refl, sym, ◌∙◌, ap, subst}
+use Rattle.std.proofs.Common.{◌≡◌, ℕ, Bool, true, false, cond, List, [], ◌∷◌, drop, Option, Some, None, codes, refl, subst}
 use Rattle.std.specs.Option.{option_map, option_and_then}
 use Rattle.plain_words.specs.Form.{Text}
 use Rattle.plain_words.specs.Rules.{are_plain, named_words, option_value}
 use Rattle.command_words.specs.declared.table.CommandName.{CommandName}
 use Rattle.command_words.specs.declared.table.CommandName.TheVariants as names
-use Rattle.command_words.specs.Command.{ChartView, CommandView, SolveView, solve, platforms, paths, make, are_apart, chart_of, check_of, command_of, named_command, of_four, of_one, of_two, of_two_or_three, picked_row, row_command, solve_of, splits_of}
-use Rattle.command_words.specs.Number.{number_up_to}
+use Rattle.command_words.specs.Command.{ChartView, GeneratedView, SolveView, solve, platforms, paths, make, trial, are_apart, chart_of, command_of, generated_of, named_command, picked_row, row_command, solve_of, splits_of}
 use Rattle.command_words.specs.Table.{RowView}
 
 of_solve : (instance : Text) (splits plan proof : Option Text) (words : SolveView) → solve_of instance splits plan proof ≡ Some (solve words) → are_apart words.instance words.plan words.proof ≡ true
@@ -28,10 +27,9 @@ no_chart : (o : Option ChartView) (words : SolveView) → (option_map platforms 
 no_chart None words = (λ e. cc e, λ e. cc e)
 no_chart (Some chart) words = (λ e. cc e, λ e. cc e)
 
-no_make : (number trains : Option ℕ) (words : SolveView) → option_and_then (λ seed. option_map (λ count. make (record { number = seed; trains = count })) trains) number ≡ Some (solve words) → ⊥
-no_make None trains words e = cc e
-no_make (Some seed) None words e = cc e
-no_make (Some seed) (Some count) words e = cc e
+no_station : (o : Option GeneratedView) (words : SolveView) → (option_map make o ≡ Some (solve words) → ⊥) × (option_map trial o ≡ Some (solve words) → ⊥)
+no_station None words = (λ e. cc e, λ e. cc e)
+no_station (Some station) words = (λ e. cc e, λ e. cc e)
 
 of_name : (name : CommandName) (named : List Text) (value : Text → Option Text) (words : SolveView) → named_command name named value ≡ Some (solve words) → are_apart words.instance words.plan words.proof ≡ true
 of_name names.Solve [] value words e = absurd (cc e)
@@ -46,6 +44,9 @@ of_name names.Cost [] value words e = absurd (cc e)
 of_name names.Cost (a ∷ []) value words e = absurd (cc e)
 of_name names.Cost (a ∷ b ∷ []) value words e = absurd (cc e)
 of_name names.Cost (a ∷ b ∷ c ∷ rest) value words e = absurd (cc e)
+of_name names.Bound [] value words e = absurd (cc e)
+of_name names.Bound (a ∷ []) value words e = absurd (cc e)
+of_name names.Bound (a ∷ b ∷ rest) value words e = absurd (cc e)
 of_name names.Patterns [] value words e = absurd (cc e)
 of_name names.Patterns (a ∷ []) value words e = absurd (cc e)
 of_name names.Patterns (a ∷ b ∷ rest) value words e = absurd (cc e)
@@ -63,8 +64,12 @@ of_name names.Paths (a ∷ b ∷ c ∷ d ∷ []) value words e = absurd ((no_cha
 of_name names.Paths (a ∷ b ∷ c ∷ d ∷ f ∷ rest) value words e = absurd (cc e)
 of_name names.Make [] value words e = absurd (cc e)
 of_name names.Make (a ∷ []) value words e = absurd (cc e)
-of_name names.Make (a ∷ b ∷ []) value words e = absurd (no_make (number_up_to 18_446_744_073_709_551_615 a) (number_up_to 200 b) words e)
+of_name names.Make (a ∷ b ∷ []) value words e = absurd ((no_station (generated_of a b) words).0 e)
 of_name names.Make (a ∷ b ∷ c ∷ rest) value words e = absurd (cc e)
+of_name names.Trial [] value words e = absurd (cc e)
+of_name names.Trial (a ∷ []) value words e = absurd (cc e)
+of_name names.Trial (a ∷ b ∷ []) value words e = absurd ((no_station (generated_of a b) words).1 e)
+of_name names.Trial (a ∷ b ∷ c ∷ rest) value words e = absurd (cc e)
 
 of_row : (row : RowView) (words : List Text) (search : SolveView) → row_command row words ≡ Some (solve search) → are_apart search.instance search.plan search.proof ≡ true
 of_row row words search e = by_test (are_plain row.form words) e

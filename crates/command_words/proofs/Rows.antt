@@ -9,8 +9,8 @@ use Rattle.plain_words.specs.Form.{Text, CommandForm, option_names, is_readable}
 use Rattle.plain_words.specs.Rules.{is_option, option_word, option_value, named_words, has_arguments, are_plain}
 use Rattle.plain_words.proofs.Split.{both_true}
 use Rattle.std.proofs.lemmas.Bool.Decides.{nat_tests}
-use Rattle.command_words.specs.Command.{ChartView, CommandView, cost, patterns, platforms, paths, solve_of, check_of, chart_of, make_of, of_one, of_two, of_two_or_three, of_four, named_command, picked_row, row_command}
-use Rattle.command_words.specs.Table.{RowView, command_table, solve_row, check_row, cost_row, patterns_row, platforms_row, paths_row, make_row}
+use Rattle.command_words.specs.Command.{ChartView, CommandView, GeneratedView, cost, bound_all, patterns, platforms, paths, make, trial, solve_of, check_of, chart_of, generated_of, of_one, of_two, of_two_or_three, of_four, named_command, picked_row, row_command}
+use Rattle.command_words.specs.Table.{RowView, command_table, solve_row, check_row, cost_row, bound_row, patterns_row, platforms_row, paths_row, make_row, trial_row}
 use Rattle.command_words.specs.Values.{values_command}
 
 -- what the values under a row's names are
@@ -55,6 +55,13 @@ chart_named build (i ∷ p ∷ a ∷ []) instance plan from to few e0 e1 e2 e3 =
 chart_named build (i ∷ p ∷ a ∷ b ∷ []) instance plan from to few e0 e1 e2 e3 = rw (e0, e1, e2, e3) refl
 chart_named build (i ∷ p ∷ a ∷ b ∷ c ∷ rest) instance plan from to few e0 e1 e2 e3 = absurd (omega arith)
 
+station_named : (build : GeneratedView → CommandView) (named : List Text) (number trains : Option Text) → length named ≤ 2 → number ≡ slice_get named 0 → trains ≡ slice_get named 1
+    → option_map build (option_and_then (λ n. option_and_then (λ t. generated_of n t) trains) number) ≡ of_two named (λ n t. option_map build (generated_of n t))
+station_named build [] number trains few e0 e1 = rw e0 refl
+station_named build (n ∷ []) number trains few e0 e1 = rw (e0, e1) refl
+station_named build (n ∷ t ∷ []) number trains few e0 e1 = rw (e0, e1) refl
+station_named build (n ∷ t ∷ c ∷ rest) number trains few e0 e1 = absurd (omega arith)
+
 solve_is : IsRow solve_row
 solve_is = record {
   readable = refl;
@@ -79,6 +86,12 @@ cost_is = record {
   readable = refl;
   same = λ named option value gives.
       two_named (λ instance plan. Some (cost instance plan)) named (value (codes "INSTANCE")) (value (codes "PLAN")) gives.few (gives.arguments 0 (codes "INSTANCE") refl) (gives.arguments 1 (codes "PLAN") refl);
+}
+
+bound_is : IsRow bound_row
+bound_is = record {
+  readable = refl;
+  same = λ named option value gives. one_named (λ instance. Some (bound_all instance)) named (value (codes "INSTANCE")) gives.few (gives.arguments 0 (codes "INSTANCE") refl);
 }
 
 patterns_is : IsRow patterns_row
@@ -107,11 +120,18 @@ make_is : IsRow make_row
 make_is = record {
   readable = refl;
   same = λ named option value gives.
-      two_named make_of named (value (codes "NUMBER")) (value (codes "TRAINS")) gives.few (gives.arguments 0 (codes "NUMBER") refl) (gives.arguments 1 (codes "TRAINS") refl);
+      station_named make named (value (codes "NUMBER")) (value (codes "TRAINS")) gives.few (gives.arguments 0 (codes "NUMBER") refl) (gives.arguments 1 (codes "TRAINS") refl);
+}
+
+trial_is : IsRow trial_row
+trial_is = record {
+  readable = refl;
+  same = λ named option value gives.
+      station_named trial named (value (codes "NUMBER")) (value (codes "TRAINS")) gives.few (gives.arguments 0 (codes "NUMBER") refl) (gives.arguments 1 (codes "TRAINS") refl);
 }
 
 table_is : AllByRecursion IsRow command_table
-table_is = (solve_is, (check_is, (cost_is, (patterns_is, (platforms_is, (paths_is, (make_is, tt)))))))
+table_is = (solve_is, (check_is, (cost_is, (bound_is, (patterns_is, (platforms_is, (paths_is, (make_is, (trial_is, tt)))))))))
 
 found_is : {X : Type 0} (P : X → Type 0) (p : X → Bool) (xs : List X) (x : X) → AllByRecursion P xs → find p xs ≡ Some x → P x
 found_is P p [] x all is = absurd (cc is)

@@ -30,7 +30,7 @@ pub record CheckView : Type 0 where
   pub plan : Option Text
 
 -- the number that a station is made from, and how many trains it has
-pub record MakeView : Type 0 where
+pub record GeneratedView : Type 0 where
   pub number : ℕ
   pub trains : ℕ
 
@@ -39,10 +39,12 @@ pub data CommandView : Type 0 where
   solve : SolveView → CommandView
   check : CheckView → CommandView
   cost : (instance plan : Text) → CommandView
+  bound_all : (instance : Text) → CommandView
   patterns : (instance : Text) → CommandView
   platforms : ChartView → CommandView
   paths : ChartView → CommandView
-  make : MakeView → CommandView
+  make : GeneratedView → CommandView
+  trial : GeneratedView → CommandView
 
 -- A minute is at most 9,999.
 abbrev pub minute_of : Text → Option ℕ
@@ -82,9 +84,9 @@ chart_of instance plan from to =
     option_and_then (λ first. option_map (λ end. record { instance = instance; plan = plan; from = first; to = end }) (minute_of to)) (minute_of from)
 
 -- The number is below 2^64, and there are at most 200 trains.
-abbrev pub make_of : Text → Text → Option CommandView
-make_of number trains =
-    option_and_then (λ seed. option_map (λ count. make (record { number = seed; trains = count })) (number_up_to 200 trains))
+abbrev pub generated_of : Text → Text → Option GeneratedView
+generated_of number trains =
+    option_and_then (λ seed. option_map (λ count. record { number = seed; trains = count }) (number_up_to 200 trains))
     (number_up_to 18_446_744_073_709_551_615 number)
 
 -- what is made of the words where they are just one, two or four
@@ -112,10 +114,12 @@ named_command names.Solve named value =
     of_one named (λ instance. solve_of instance (value (codes "splits")) (value (codes "plan")) (value (codes "proof")))
 named_command names.Check named value = of_two_or_three named (λ instance proof plan. Some (check_of instance proof plan))
 named_command names.Cost named value = of_two named (λ instance plan. Some (cost instance plan))
+named_command names.Bound named value = of_one named (λ instance. Some (bound_all instance))
 named_command names.Patterns named value = of_one named (λ instance. Some (patterns instance))
 named_command names.Platforms named value = of_four named (λ instance plan from to. option_map platforms (chart_of instance plan from to))
 named_command names.Paths named value = of_four named (λ instance plan from to. option_map paths (chart_of instance plan from to))
-named_command names.Make named value = of_two named make_of
+named_command names.Make named value = of_two named (λ number trains. option_map make (generated_of number trains))
+named_command names.Trial named value = of_two named (λ number trains. option_map trial (generated_of number trains))
 
 -- The command of a row, where the words behind the first are plain for it.
 abbrev pub row_command : RowView → List Text → Option CommandView

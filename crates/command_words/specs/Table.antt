@@ -36,6 +36,10 @@ check_row = record {
 abbrev pub cost_row : RowView
 cost_row = record { name = names.Cost; form = record { word = codes "cost"; arguments = codes "INSTANCE" ∷ codes "PLAN" ∷ []; missing = 0; options = [] } }
 
+-- bound INSTANCE
+abbrev pub bound_row : RowView
+bound_row = record { name = names.Bound; form = record { word = codes "bound"; arguments = codes "INSTANCE" ∷ []; missing = 0; options = [] } }
+
 -- patterns INSTANCE
 abbrev pub patterns_row : RowView
 patterns_row = record { name = names.Patterns; form = record { word = codes "patterns"; arguments = codes "INSTANCE" ∷ []; missing = 0; options = [] } }
@@ -52,5 +56,9 @@ paths_row = record { name = names.Paths; form = record { word = codes "paths"; a
 abbrev pub make_row : RowView
 make_row = record { name = names.Make; form = record { word = codes "make"; arguments = codes "NUMBER" ∷ codes "TRAINS" ∷ []; missing = 0; options = [] } }
 
+-- trial NUMBER TRAINS
+abbrev pub trial_row : RowView
+trial_row = record { name = names.Trial; form = record { word = codes "trial"; arguments = codes "NUMBER" ∷ codes "TRAINS" ∷ []; missing = 0; options = [] } }
+
 abbrev pub command_table : List RowView
-command_table = solve_row ∷ check_row ∷ cost_row ∷ patterns_row ∷ platforms_row ∷ paths_row ∷ make_row ∷ []
+command_table = solve_row ∷ check_row ∷ cost_row ∷ bound_row ∷ patterns_row ∷ platforms_row ∷ paths_row ∷ make_row ∷ trial_row ∷ []

@@ -34,6 +34,13 @@ pub struct Cost<'a> {
     pub plan: &'a str,
 }
 
+/// Prints what is known of all plans without a search.
+#[derive(Clone, Copy, Debug, PartialEq, Eq)]
+pub struct Bound<'a> {
+    /// The file of the station.
+    pub instance: &'a str,
+}
+
 /// Prints all pattern lists.
 #[derive(Clone, Copy, Debug, PartialEq, Eq)]
 pub struct Patterns<'a> {
@@ -54,9 +61,9 @@ pub struct Chart<'a> {
     pub to: u32,
 }
 
-/// Makes a station from a number.
+/// A station that a number makes.
 #[derive(Clone, Copy, Debug, PartialEq, Eq)]
-pub struct Make {
+pub struct Generated {
     pub number: u64,
     /// How many trains the station has, at most 200.
     pub trains: u8,
@@ -72,6 +79,8 @@ pub enum Command<'a> {
     Check(Check<'a>),
     /// `cost INSTANCE PLAN`
     Cost(Cost<'a>),
+    /// `bound INSTANCE`
+    Bound(Bound<'a>),
     /// `patterns INSTANCE`
     Patterns(Patterns<'a>),
     /// `platforms INSTANCE PLAN FROM TO`
@@ -79,5 +88,7 @@ pub enum Command<'a> {
     /// `paths INSTANCE PLAN FROM TO`
     Paths(Chart<'a>),
     /// `make NUMBER TRAINS`
-    Make(Make),
+    Make(Generated),
+    /// `trial NUMBER TRAINS`
+    Trial(Generated),
 }

@@ -9,7 +9,7 @@ mod reading;
 mod table;
 mod usage_text;
 
-pub use command::{Chart, Check, Command, Cost, Make, Patterns, Solve};
+pub use command::{Bound, Chart, Check, Command, Cost, Generated, Patterns, Solve};
 pub use reading::read_words;
 pub use usage_text::usage;
 

@@ -2,11 +2,11 @@
 ghost use Rattle.std.specs.Prelude.{◌≡◌, ◌<◌, IfOk, drop, length, map, string_bytes, Some};
 ghost use Rattle.std.specs.Option.{option_map};
 ghost use Rattle.clap.specs.Words.{first_value, found_of};
-ghost use Rattle.command_words.specs.Command.{are_apart, are_one, chart_of, command_of, is_file, make_of, minute_of, picked_row, row_command, solve_of, splits_of};
-ghost use Rattle.command_words.specs.Values.{chart_from, command_from, make_from, values_command};
-ghost use Rattle.command_words.specs.View.{chart_view, row_view, view_of};
+ghost use Rattle.command_words.specs.Command.{are_apart, are_one, chart_of, command_of, generated_of, is_file, minute_of, picked_row, row_command, solve_of, splits_of};
+ghost use Rattle.command_words.specs.Values.{chart_from, command_from, generated_from, values_command};
+ghost use Rattle.command_words.specs.View.{chart_view, generated_view, row_view, view_of};
 
-use crate::command::{Chart, Check, Command, Cost, Make, Patterns, Solve};
+use crate::command::{Bound, Chart, Check, Command, Cost, Generated, Patterns, Solve};
 use crate::number::number_up_to;
 use crate::table::{CommandName, TableRow, commands, find_row};
 use clap::ArgMatches;
@@ -64,26 +64,29 @@ fn values_command<'a>(name: CommandName, matches: &ArgMatches<'a>) -> Option<Com
     ensures { option_map view_of result ≡ values_command name (first_value (found_of matches.now)) }
 {
     if let CommandName::Make = name {
-        return make_from(matches);
+        return Some(Command::Make(generated_from(matches)?));
+    }
+    if let CommandName::Trial = name {
+        return Some(Command::Trial(generated_from(matches)?));
     }
     let instance = matches.get_str("INSTANCE")?;
     command_from(name, instance, matches)
 }
 
-fn make_from<'a>(matches: &ArgMatches<'a>) -> Option<Command<'a>>
-    ensures { option_map view_of result ≡ make_from (first_value (found_of matches.now)) }
+fn generated_from(matches: &ArgMatches<'_>) -> Option<Generated>
+    ensures { option_map generated_view result ≡ generated_from (first_value (found_of matches.now)) }
 {
     let number = matches.get_str("NUMBER")?;
     let trains = matches.get_str("TRAINS")?;
-    make_of(number, trains)
+    generated_of(number, trains)
 }
 
-fn make_of<'a>(number: &str, trains: &str) -> Option<Command<'a>>
-    ensures { option_map view_of result ≡ make_of number.now trains.now }
+fn generated_of(number: &str, trains: &str) -> Option<Generated>
+    ensures { option_map generated_view result ≡ generated_of number.now trains.now }
 {
     let number = number_up_to(u64::MAX, number)?;
     let trains = number_up_to(MOST_TRAINS, trains)? as u8;
-    Some(Command::Make(Make { number, trains }))
+    Some(Generated { number, trains })
 }
 
 // A command that reads a station.
@@ -113,10 +116,11 @@ fn command_from<'a>(
             let plan = matches.get_str("PLAN")?;
             Some(Command::Cost(Cost { instance, plan }))
         }
+        CommandName::Bound => Some(Command::Bound(Bound { instance })),
         CommandName::Patterns => Some(Command::Patterns(Patterns { instance })),
         CommandName::Platforms => Some(Command::Platforms(chart_from(instance, matches)?)),
         CommandName::Paths => Some(Command::Paths(chart_from(instance, matches)?)),
-        CommandName::Make => None,
+        CommandName::Make | CommandName::Trial => None,
     }
 }
 

@@ -13,10 +13,12 @@ pub(crate) enum CommandName {
     Solve,
     Check,
     Cost,
+    Bound,
     Patterns,
     Platforms,
     Paths,
     Make,
+    Trial,
 }
 
 /// A row of the table.
@@ -28,7 +30,7 @@ pub(crate) struct TableRow {
 
 /// The commands that are built, in the order of the usage text. This table alone says which words and options
 /// there are.
-static COMMANDS: [TableRow; 7] = [
+static COMMANDS: [TableRow; 9] = [
     TableRow {
         name: CommandName::Solve,
         row: CommandRow {
@@ -70,6 +72,15 @@ static COMMANDS: [TableRow; 7] = [
         },
     },
     TableRow {
+        name: CommandName::Bound,
+        row: CommandRow {
+            word: "bound",
+            arguments: &["INSTANCE"],
+            missing: 0,
+            options: &[],
+        },
+    },
+    TableRow {
         name: CommandName::Patterns,
         row: CommandRow {
             word: "patterns",
@@ -100,6 +111,15 @@ static COMMANDS: [TableRow; 7] = [
         name: CommandName::Make,
         row: CommandRow {
             word: "make",
+            arguments: &["NUMBER", "TRAINS"],
+            missing: 0,
+            options: &[],
+        },
+    },
+    TableRow {
+        name: CommandName::Trial,
+        row: CommandRow {
+            word: "trial",
             arguments: &["NUMBER", "TRAINS"],
             missing: 0,
             options: &[],

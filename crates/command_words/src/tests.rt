@@ -60,15 +60,23 @@ fn words_that_are_a_command(rt: HostRuntime) -> Result<(), Fail> {
                 plan: "s",
             }),
         ),
+        ("bound s", Command::Bound(Bound { instance: "s" })),
         ("patterns s", Command::Patterns(Patterns { instance: "s" })),
         ("platforms s p 8 20", Command::Platforms(chart(8, 20))),
         ("platforms s p 0 9999", Command::Platforms(chart(0, 9_999))),
         ("paths s p 8 8", Command::Paths(chart(8, 8))),
         (
             "make 18446744073709551615 200",
-            Command::Make(Make {
+            Command::Make(Generated {
                 number: u64::MAX,
                 trains: 200,
+            }),
+        ),
+        (
+            "trial 7 0",
+            Command::Trial(Generated {
+                number: 7,
+                trains: 0,
             }),
         ),
     ];
@@ -131,10 +139,12 @@ fn usage_of_all_commands(rt: HostRuntime) -> Result<(), Fail> {
         solve INSTANCE [--splits N] [--plan FILE] [--proof FILE]\n\
         check INSTANCE PROOF [PLAN]\n\
         cost INSTANCE PLAN\n\
+        bound INSTANCE\n\
         patterns INSTANCE\n\
         platforms INSTANCE PLAN FROM TO\n\
         paths INSTANCE PLAN FROM TO\n\
-        make NUMBER TRAINS\n";
+        make NUMBER TRAINS\n\
+        trial NUMBER TRAINS\n";
     assert_eq!(rt; usage(rt.alloc())?.as_slice(), expected.as_bytes());
     Ok(())
 }

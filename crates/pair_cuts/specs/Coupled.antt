@@ -1,19 +1,13 @@
 -- Least tables of two trains' weights.
 use Rattle.std.specs.Prelude.{◌≡◌, ℕ, List, ℤ}
 use Rattle.transport.specs.declared.TableCell.{TableCell}
-use Rattle.transport.specs.Coupling.{IsCoupling, IsLeastCoupling, cost_of}
+use Rattle.transport.specs.Coupling.{IsCoupling, cost_of}
 use Rattle.patterns.specs.declared.weights.Weights.{Weights}
 use Rattle.patterns.specs.Allowed.{Lists}
 use Rattle.patterns.specs.Weights.{choice_weights}
 use Rattle.pair_prices.specs.Case.{CaseRecord}
 use Rattle.pair_cuts.specs.declared.cut.PairCut.{PairCut}
 use Rattle.pair_cuts.specs.Cut.{IsPairCut, pair_costs, worth}
-
--- A least coupling, with some potentials that show it.
-pub record IsShownLeast (costs : ℕ → ℕ → ℕ) (left right : List ℤ) (cells : List TableCell) : Type 0 where
-  pub alpha : List ℤ
-  pub beta : List ℤ
-  pub least : IsLeastCoupling costs left right cells alpha beta
 
 -- The cells are a coupling of the two trains' weights, and a cut that holds is worth what they cost. So no coupling costs less.
 pub record IsLeastTable (c : CaseRecord) (lists : Lists) (w : Weights) (first second : ℕ) (cells : List TableCell) : Type 0 where

@@ -1,10 +1,11 @@
-ghost use Rattle.pair_cuts.specs.Coupled.{IsLeastTable, IsShownLeast};
+ghost use Rattle.pair_cuts.specs.Coupled.{IsLeastTable};
 ghost use Rattle.pair_cuts.specs.Cut.{IsScaleAbove};
 ghost use Rattle.pair_cuts.specs.Table.{AreChoiceWeights, cost_at};
 ghost use Rattle.pair_prices.specs.Case.{IsCase};
 ghost use Rattle.patterns.specs.Allowed.{FitsBook};
 ghost use Rattle.patterns.specs.Weights.{FitsLists};
 ghost use Rattle.std.specs.Prelude.{◌≡◌, ℤ, ◌^◌, ◌<◌, length, pos, ◌≤ℤ◌, ◌↔◌, IfOk, Err};
+ghost use Rattle.transport.specs.Coupling.{IsShownLeast};
 
 use crate::costs::PairCosts;
 use crate::cut::CutFault;
@@ -76,8 +77,8 @@ fn cells_of(
     requires { AreChoiceWeights costs.now left.now right.now }
     ensures { IfOk result (IsShownLeast (cost_at costs.now) left.now right.now) }
 {
-    let Ok(coupled) = transport::couple(alloc, left, right, costs) else {
+    let Ok(cells) = transport::couple_cells(alloc, left, right, costs) else {
         return Err(AllocError);
     };
-    Ok(coupled.cells)
+    Ok(cells)
 }

@@ -4,7 +4,7 @@ use Rattle.std.specs.Prelude.{IsSome}
 use Rattle.std.specs.declared.option.Option.{Option}
 use Rattle.std.specs.Option.{option_map, option_and_then}
 use Rattle.shelf.specs.Outside.{Same}
-use Rattle.command_words.specs.Command.{CommandView, SolveView, solve, check, cost, patterns, platforms, paths, make}
+use Rattle.command_words.specs.Command.{CommandView, SolveView, solve, check, cost, bound_all, patterns, platforms, paths, make, trial}
 use Rattle.station_reader.specs.declared.refusal.RefusedKind.{RefusedKind}
 use Rattle.station_reader.specs.Allowed.{StationRecord}
 use Rattle.station_reader.specs.Reading.{Reading, taken, refused}
@@ -15,6 +15,8 @@ use Rattle.plan_cost.specs.declared.refusal.PlanRefused.{PlanRefused}
 use Rattle.plan_cost.specs.declared.verdict.Clash.{Clash}
 use Rattle.plan_cost.specs.Verdict.{first_clash}
 use Rattle.reports.specs.Text.{patterns_text, window_text, conflict_text, plan_refused_text}
+use Rattle.branching.specs.declared.found.Root.{Root}
+use Rattle.branching.specs.RootLine.{IsRoot}
 use Rattle.platform_cli.specs.declared.asked.Window.{Window}
 use Rattle.platform_cli.specs.Answers.{IsProofTaken}
 use Rattle.platform_cli.specs.Asked.{AskedView, asked_of, bad_window, instance_of, plan_of, requested, unless_bad, Reads}
@@ -23,8 +25,8 @@ use Rattle.platform_cli.specs.declared.output.Output.{Output}
 use Rattle.platform_cli.specs.declared.output.Stop.{Stop}
 use Rattle.platform_cli.specs.Instance.{Held, IsInstance, IsPlan}
 use Rattle.platform_cli.specs.Judge.{IsJudged, IsJudgedFile}
-use Rattle.platform_cli.specs.Outcome.{IsOutcome, window, unread, optimal, no_plan, stopped, listed, refused_plan, conflict, reported}
-use Rattle.platform_cli.specs.Report.{refused_text, report_text}
+use Rattle.platform_cli.specs.Outcome.{IsOutcome, window, unread, optimal, no_plan, stopped, bounded, listed, refused_plan, conflict, reported}
+use Rattle.platform_cli.specs.Report.{bound_text, refused_text, report_text}
 use Rattle.platform_cli.specs.Solve.{IsSolved}
 use Rattle.platform_cli.specs.View.{outcome_of}
 
@@ -88,6 +90,21 @@ listed_answer tells held instance read station outcome there is made = (
   },
 )
 
+pub bounded_answer : (tells : Bool) (held : Held) (instance : List ℕ) (read : Reading) (station : StationRecord) (outcome : Outcome) → IsInstance tells held instance read → read ≡ taken station
+    → (root : Root) × IsRoot (rule_case station) root × (outcome ≡ text_outcome 0 (bound_text (rule_case station) root)) → IsOutcome tells held (Some (bound_all instance)) outcome
+bounded_answer tells held instance read station outcome there is found = (
+  bounded,
+  record {
+    instance = instance;
+    asked = λ _. Some (bound_all instance);
+    station = station;
+    read = subst (λ (r : Reading). IsInstance tells held instance r) is there;
+    root = found.0;
+    line = found.1;
+    is = found.2;
+  },
+)
+
 -- a report of minutes that charts have
 pub asked_when : (command : Option CommandView) (asked : AskedView) → requested command ≡ Some asked → bad_window asked.report ≡ None → asked_of command ≡ Some asked
 asked_when command asked words drawn =
@@ -99,20 +116,24 @@ asked_instance None asked words = absurd (cc words)
 asked_instance (Some (solve search)) asked words = absurd (cc words)
 asked_instance (Some (check files)) asked words = absurd (cc words)
 asked_instance (Some (cost instance plan)) asked words = ap (λ (o : Option AskedView). option_map (λ a. a.instance) o) words
+asked_instance (Some (bound_all instance)) asked words = absurd (cc words)
 asked_instance (Some (patterns instance)) asked words = absurd (cc words)
 asked_instance (Some (platforms chart)) asked words = ap (λ (o : Option AskedView). option_map (λ a. a.instance) o) words
 asked_instance (Some (paths chart)) asked words = ap (λ (o : Option AskedView). option_map (λ a. a.instance) o) words
 asked_instance (Some (make numbers)) asked words = absurd (cc words)
+asked_instance (Some (trial numbers)) asked words = absurd (cc words)
 
 pub asked_plan : (command : Option CommandView) (asked : AskedView) → asked_of command ≡ Some asked → plan_of command ≡ Some asked.plan
 asked_plan None asked words = absurd (cc words)
 asked_plan (Some (solve search)) asked words = absurd (cc words)
 asked_plan (Some (check files)) asked words = absurd (cc words)
 asked_plan (Some (cost instance plan)) asked words = ap (λ (o : Option AskedView). option_map (λ a. a.plan) o) words
+asked_plan (Some (bound_all instance)) asked words = absurd (cc words)
 asked_plan (Some (patterns instance)) asked words = absurd (cc words)
 asked_plan (Some (platforms chart)) asked words = ap (λ (o : Option AskedView). option_map (λ a. a.plan) o) words
 asked_plan (Some (paths chart)) asked words = ap (λ (o : Option AskedView). option_map (λ a. a.plan) o) words
 asked_plan (Some (make numbers)) asked words = absurd (cc words)
+asked_plan (Some (trial numbers)) asked words = absurd (cc words)
 
 pub reads_plan : (tells : Bool) (held : Held) (command : Option CommandView) (asked : AskedView) (read : Reading) (station : StationRecord) → requested command ≡ Some asked → bad_window asked.report ≡ None
     → IsInstance tells held asked.instance read → read ≡ taken station → Reads tells held command asked.plan
@@ -145,10 +166,12 @@ no_proof tells held None asked c words = tt
 no_proof tells held (Some (solve search)) asked c words = tt
 no_proof tells held (Some (check files)) asked c words = absurd (cc words)
 no_proof tells held (Some (cost instance plan)) asked c words = tt
+no_proof tells held (Some (bound_all instance)) asked c words = tt
 no_proof tells held (Some (patterns instance)) asked c words = tt
 no_proof tells held (Some (platforms chart)) asked c words = tt
 no_proof tells held (Some (paths chart)) asked c words = tt
 no_proof tells held (Some (make numbers)) asked c words = tt
+no_proof tells held (Some (trial numbers)) asked c words = tt
 
 -- a plan's text that was read, of a command that reads a plan
 module _ (tells : Bool) (held : Held) (command : Option CommandView) (instance name : List ℕ) (station : StationRecord) (asked : instance_of command ≡ Some instance) (named : plan_of command ≡ Some name)

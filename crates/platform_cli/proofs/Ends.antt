@@ -2,23 +2,24 @@
 use Rattle.std.proofs.Common.{◌≡◌, ◌≢◌, ◌⊎◌, inl, inr, ℕ, ◌<◌, Bool, List, None, Some, sym, ◌∙◌, subst, arith}
 use Rattle.std.specs.declared.option.Option.{Option}
 use Rattle.std.specs.Prelude.{Contains}
-use Rattle.command_words.specs.Command.{CommandView, SolveView, CheckView, MakeView, solve, check, patterns, make}
+use Rattle.command_words.specs.Command.{CommandView, SolveView, CheckView, GeneratedView, solve, check, bound_all, patterns, make, trial}
 use Rattle.shelf.specs.Outside.{Same, Rose}
 use Rattle.station_reader.specs.Reading.{reading}
 use Rattle.platform_cli.specs.declared.asked.Window.{Window}
-use Rattle.platform_cli.specs.Answers.{IsUsage, IsWindow, IsUnread, IsOptimal, IsNoPlan, IsOpen, IsListed, IsMade, IsProofRefused, IsChecked, IsPlanRefused, IsConflict, IsReported}
+use Rattle.platform_cli.specs.Answers.{IsUsage, IsWindow, IsUnread, IsOptimal, IsBounded, IsListed, IsMade, IsTriedOptimal, SaysNoPlan, SaysOpen, IsProofRefused, IsChecked, IsPlanRefused, IsConflict, IsReported}
 use Rattle.platform_cli.specs.Asked.{AskedView, Reads, Writes, asked_of, bad_window_of}
-use Rattle.platform_cli.specs.Exact.{NoCallFailed, SolveEnds, CheckEnds, ListingEnds, ReportEnds, statuses}
+use Rattle.platform_cli.specs.Exact.{NoCallFailed, SearchEnds, SolveEnds, CheckEnds, ListingEnds, ReportEnds, statuses}
 use Rattle.platform_cli.specs.Given.{NewFile, Outcome}
 use Rattle.platform_cli.specs.Instance.{Held}
 use Rattle.platform_cli.specs.Outcome.{IsOutcome}
 use Rattle.platform_cli.specs.Run.{Faults, IsFinished, IsDone, IsCut, IsCutOff, IsNothing, IsEnded, IsOldOrWhole, IsPlanFile, IsProofKept, WasGiven}
 use Rattle.platform_cli.specs.Statuses.{stop_code}
+use Rattle.platform_cli.specs.Trial.{trial_case, trial_splits}
 use Rattle.platform_cli.specs.declared.output.Stop.{Stop}
 use Rattle.platform_cli.specs.declared.output.Stop.TheVariants.{ReadFault, WriteFault, Memory}
 use Rattle.platform_cli.proofs.Files.{all_kept}
-use Rattle.platform_cli.proofs.Exactness.{status_in, solve_status, check_status, listing_status, report_status}
-use Rattle.platform_cli.proofs.Outcomes.{no_fault_code, usage_answer, window_status, refused_answer, no_plan_answer, stopped_answer, proof_refused_answer, plan_refused_answer, conflict_answer, optimal_answer, checked_status, made_status, listed_status, reported_answer, bad_status, none_status, bad_window_reads, none_reads}
+use Rattle.platform_cli.proofs.Exactness.{status_in, solve_status, trial_status, check_status, bound_status, listing_status, report_status}
+use Rattle.platform_cli.proofs.Outcomes.{no_fault_code, usage_answer, window_status, refused_answer, no_plan_answer, stopped_answer, proof_refused_answer, plan_refused_answer, conflict_answer, optimal_answer, checked_status, made_status, tried_status, bounded_status, listed_status, reported_answer, bad_status, none_status, bad_window_reads, none_reads}
 use Rattle.platform_cli.proofs.PlanFiles.{unwritten_kept, plan_kept, proof_kept}
 use Rattle.command_words.specs.Command.{are_apart}
 use Rattle.std.proofs.Common.{true}
@@ -27,6 +28,11 @@ pub write_stop : (stop : Stop) (n : ℕ) → n ≡ stop_code stop → n ≡ 7 �
 write_stop ReadFault n is seven = absurd (omega (arith, is, seven))
 write_stop WriteFault n is seven = λ _. WriteFault
 write_stop Memory n is seven = absurd (omega (arith, is, seven))
+
+pub read_stop : (stop : Stop) (n : ℕ) → n ≡ stop_code stop → n ≡ 6 → stop ≡ ReadFault
+read_stop ReadFault n is six = λ _. ReadFault
+read_stop WriteFault n is six = absurd (omega (arith, is, six))
+read_stop Memory n is six = absurd (omega (arith, is, six))
 
 -- a delivery ends by no read fault
 pub cut_off : (stop : Stop) (n : ℕ) → n ≡ stop_code stop → (stop ≡ ReadFault → ⊥) → IsCutOff n
@@ -106,8 +112,14 @@ module _ {tells : Bool} {command : Option CommandView} {status : ℕ} {old new :
   pub checked_given : (words : CheckView) → command ≡ Some (check words) → status ≡ 0 → WasGiven (IsChecked tells old command) tells old new before now
   checked_given words asked at = given_at 0 at (inl (omega arith)) (IsChecked tells old command) (λ outcome is code. checked_status tells old command words outcome asked is code)
 
-  pub made_given : (words : MakeView) → command ≡ Some (make words) → status ≡ 0 → WasGiven (IsMade command) tells old new before now
+  pub made_given : (words : GeneratedView) → command ≡ Some (make words) → status ≡ 0 → WasGiven (IsMade command) tells old new before now
   made_given words asked at = given_at 0 at (inl (omega arith)) (IsMade command) (λ outcome is code. made_status tells old command words outcome asked is code)
+
+  pub tried_given : (words : GeneratedView) → command ≡ Some (trial words) → status ≡ 0 → WasGiven (IsTriedOptimal command) tells old new before now
+  tried_given words asked at = given_at 0 at (inl (omega arith)) (IsTriedOptimal command) (λ outcome is code. tried_status tells old command words outcome asked is code)
+
+  pub bounded_given : (instance : List ℕ) → command ≡ Some (bound_all instance) → status ≡ 0 → WasGiven (IsBounded tells old command) tells old new before now
+  bounded_given instance words at = given_at 0 at (inl (omega arith)) (IsBounded tells old command) (λ outcome is code. bounded_status tells old command instance outcome words is code)
 
   pub listed_given : (instance : List ℕ) → command ≡ Some (patterns instance) → status ≡ 0 → WasGiven (IsListed tells old command) tells old new before now
   listed_given instance words at = given_at 0 at (inl (omega arith)) (IsListed tells old command) (λ outcome is code. listed_status tells old command instance outcome words is code)
@@ -115,11 +127,11 @@ module _ {tells : Bool} {command : Option CommandView} {status : ℕ} {old new :
   pub reported_given : (asked : AskedView) → asked_of command ≡ Some asked → status ≡ 0 → WasGiven (IsReported tells old command) tells old new before now
   reported_given asked words at = given_at 0 at (inl (omega arith)) (IsReported tells old command) (λ outcome is code. reported_answer tells old command asked outcome words is code)
 
-  pub no_plan_given : status ≡ 10 → WasGiven (IsNoPlan tells old command) tells old new before now
-  no_plan_given at = given_at 10 at (inr (omega arith)) (IsNoPlan tells old command) (λ outcome is code. no_plan_answer tells old command outcome is code)
+  pub no_plan_given : status ≡ 10 → WasGiven (SaysNoPlan tells old command) tells old new before now
+  no_plan_given at = given_at 10 at (inr (omega arith)) (SaysNoPlan tells old command) (λ outcome is code. no_plan_answer tells old command outcome is code)
 
-  pub open_given : status ≡ 11 → WasGiven (IsOpen tells old command) tells old new before now
-  open_given at = given_at 11 at (inr (omega arith)) (IsOpen tells old command) (λ outcome is code. stopped_answer tells old command outcome is code)
+  pub open_given : status ≡ 11 → WasGiven (SaysOpen tells old command) tells old new before now
+  open_given at = given_at 11 at (inr (omega arith)) (SaysOpen tells old command) (λ outcome is code. stopped_answer tells old command outcome is code)
 
   pub proof_refused_given : status ≡ 5 → WasGiven (IsProofRefused tells old command) tells old new before now
   proof_refused_given at = given_at 5 at (inl (omega arith)) (IsProofRefused tells old command) (λ outcome is code. proof_refused_answer tells old command outcome is code)
@@ -225,10 +237,20 @@ module _ {tells : Bool} {command : Option CommandView} {status : ℕ} {old new :
       let done = done_of finished in
       subst (λ (n : ℕ). SolveEnds words.splits (reading whole) n) (sym done.code) (solve_status tells old command words whole done.outcome asked holds done.is_outcome)
 
+  pub trial_given : (words : GeneratedView) → command ≡ Some (trial words) → IsFinished status → SearchEnds (trial_case words) trial_splits status
+  trial_given words asked finished =
+      let done = done_of finished in
+      subst (λ (n : ℕ). SearchEnds (trial_case words) trial_splits n) (sym done.code) (trial_status tells old command words done.outcome asked done.is_outcome)
+
   pub check_given : (words : CheckView) (whole : List ℕ) → command ≡ Some (check words) → old words.instance ≡ Some whole → IsFinished status → CheckEnds old words (reading whole) status
   check_given words whole asked holds finished =
       let done = done_of finished in
       subst (λ (n : ℕ). CheckEnds old words (reading whole) n) (sym done.code) (check_status tells old command words whole done.outcome asked holds done.is_outcome)
+
+  pub bounding_given : (instance whole : List ℕ) → command ≡ Some (bound_all instance) → old instance ≡ Some whole → IsFinished status → ListingEnds (reading whole) status
+  bounding_given instance whole words holds finished =
+      let done = done_of finished in
+      subst (λ (n : ℕ). ListingEnds (reading whole) n) (sym done.code) (bound_status tells old command instance whole done.outcome words holds done.is_outcome)
 
   pub listing_given : (instance whole : List ℕ) → command ≡ Some (patterns instance) → old instance ≡ Some whole → IsFinished status → ListingEnds (reading whole) status
   listing_given instance whole words holds finished =

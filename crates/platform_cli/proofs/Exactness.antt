@@ -3,7 +3,7 @@ use Rattle.std.proofs.Common.{◌≡◌, ◌<◌, inl, inr, ℕ, Bool, List, IfS
 use Rattle.std.specs.declared.option.Option.{Option}
 use Rattle.std.specs.Prelude.{Contains}
 use Rattle.std.proofs.lemmas.Option.{same_Some}
-use Rattle.command_words.specs.Command.{CommandView, SolveView, CheckView, solve, check, cost, patterns, platforms, paths, make}
+use Rattle.command_words.specs.Command.{CommandView, SolveView, CheckView, GeneratedView, solve, check, cost, bound_all, patterns, platforms, paths, make, trial}
 use Rattle.station_reader.specs.Reading.{Reading, reading}
 use Rattle.pair_prices.specs.Case.{CaseRecord, rule_case}
 use Rattle.plan_cost.specs.PlanReading.{PlanReading, plan_reading}
@@ -14,12 +14,13 @@ use Rattle.proof_rules.specs.Verdict.{proof_reading}
 use Rattle.platform_cli.specs.declared.asked.Window.{Window}
 use Rattle.platform_cli.specs.Answers.{IsBoundTold, IsProofTaken}
 use Rattle.platform_cli.specs.Asked.{AskedView, asked_of, bad_window_of, instance_of, plan_of}
-use Rattle.platform_cli.specs.Exact.{statuses, SolveEnds, ListingEnds, PlanEnds, ReportEnds, BesideEnds, ProofEnds, CheckEnds}
+use Rattle.platform_cli.specs.Exact.{statuses, SearchEnds, SolveEnds, ListingEnds, PlanEnds, ReportEnds, BesideEnds, ProofEnds, CheckEnds}
 use Rattle.platform_cli.specs.Given.{Outcome}
 use Rattle.platform_cli.specs.Instance.{Held, IsInstance, IsPlan, IsProof}
-use Rattle.platform_cli.specs.Outcome.{Answer, IsAnswer, IsOutcome, usage, window, unread, optimal, no_plan, stopped, listed, made, refused_proof, checked, refused_plan, conflict, reported}
+use Rattle.platform_cli.specs.Outcome.{Answer, IsAnswer, IsOutcome, usage, window, unread, optimal, no_plan, stopped, bounded, listed, made, tried_optimal, tried_none, tried_open, refused_proof, checked, refused_plan, conflict, reported}
+use Rattle.platform_cli.specs.Trial.{trial_case, trial_splits}
 use Rattle.platform_cli.proofs.Answering.{asked_instance, asked_plan}
-use Rattle.platform_cli.proofs.Outcomes.{answer_code, code_of, asked_no_solve, asked_no_check, asked_no_make, asked_no_patterns, asked_no_window}
+use Rattle.platform_cli.proofs.Outcomes.{answer_code, code_of, asked_no_solve, asked_no_check, asked_no_make, asked_no_trial, asked_no_bound, asked_no_patterns, asked_no_window}
 
 -- each answer's status is one of its command's
 
@@ -28,20 +29,24 @@ window_in_statuses None bad is = absurd (cc is)
 window_in_statuses (Some (solve words)) bad is = absurd (cc is)
 window_in_statuses (Some (check words)) bad is = absurd (cc is)
 window_in_statuses (Some (cost instance plan)) bad is = absurd (cc is)
+window_in_statuses (Some (bound_all instance)) bad is = absurd (cc is)
 window_in_statuses (Some (patterns instance)) bad is = absurd (cc is)
 window_in_statuses (Some (platforms chart)) bad is = (4, omega arith, refl)
 window_in_statuses (Some (paths chart)) bad is = (4, omega arith, refl)
 window_in_statuses (Some (make words)) bad is = absurd (cc is)
+window_in_statuses (Some (trial words)) bad is = absurd (cc is)
 
 unread_in_statuses : (command : Option CommandView) (instance : List ℕ) → instance_of command ≡ Some instance → Contains (statuses command) 3
 unread_in_statuses None instance is = absurd (cc is)
 unread_in_statuses (Some (solve words)) instance is = (1, omega arith, refl)
 unread_in_statuses (Some (check words)) instance is = (1, omega arith, refl)
 unread_in_statuses (Some (cost name plan)) instance is = (1, omega arith, refl)
+unread_in_statuses (Some (bound_all name)) instance is = (1, omega arith, refl)
 unread_in_statuses (Some (patterns name)) instance is = (1, omega arith, refl)
 unread_in_statuses (Some (platforms chart)) instance is = (1, omega arith, refl)
 unread_in_statuses (Some (paths chart)) instance is = (1, omega arith, refl)
 unread_in_statuses (Some (make words)) instance is = absurd (cc is)
+unread_in_statuses (Some (trial words)) instance is = absurd (cc is)
 
 -- the statuses of a command that reads a plan
 record PlanIn (codes : List ℕ) : Type 0 where
@@ -53,20 +58,24 @@ plan_in_statuses None name is = absurd (cc is)
 plan_in_statuses (Some (solve words)) name is = absurd (cc is)
 plan_in_statuses (Some (check words)) name is = record { refused = (2, omega arith, refl); conflict = (4, omega arith, refl) }
 plan_in_statuses (Some (cost instance plan)) name is = record { refused = (2, omega arith, refl); conflict = (3, omega arith, refl) }
+plan_in_statuses (Some (bound_all instance)) name is = absurd (cc is)
 plan_in_statuses (Some (patterns instance)) name is = absurd (cc is)
 plan_in_statuses (Some (platforms chart)) name is = record { refused = (2, omega arith, refl); conflict = (3, omega arith, refl) }
 plan_in_statuses (Some (paths chart)) name is = record { refused = (2, omega arith, refl); conflict = (3, omega arith, refl) }
 plan_in_statuses (Some (make words)) name is = absurd (cc is)
+plan_in_statuses (Some (trial words)) name is = absurd (cc is)
 
 report_in_statuses : (command : Option CommandView) (asked : AskedView) → asked_of command ≡ Some asked → Contains (statuses command) 0
 report_in_statuses None asked is = absurd (cc is)
 report_in_statuses (Some (solve words)) asked is = absurd (cc is)
 report_in_statuses (Some (check words)) asked is = absurd (cc is)
 report_in_statuses (Some (cost name plan)) asked is = (0, omega arith, refl)
+report_in_statuses (Some (bound_all name)) asked is = absurd (cc is)
 report_in_statuses (Some (patterns name)) asked is = absurd (cc is)
 report_in_statuses (Some (platforms chart)) asked is = (0, omega arith, refl)
 report_in_statuses (Some (paths chart)) asked is = (0, omega arith, refl)
 report_in_statuses (Some (make words)) asked is = absurd (cc is)
+report_in_statuses (Some (trial words)) asked is = absurd (cc is)
 
 of_command : (command : Option CommandView) (other : CommandView) (n : ℕ) → command ≡ Some other → Contains (statuses (Some other)) n → Contains (statuses command) n
 of_command command other n is there = subst (λ (c : Option CommandView). Contains (statuses c) n) (sym is) there
@@ -78,8 +87,12 @@ answer_in_statuses tells held command outcome unread is = unread_in_statuses com
 answer_in_statuses tells held command outcome optimal is = of_command command (solve is.words) 0 is.asked (0, omega arith, refl)
 answer_in_statuses tells held command outcome no_plan is = of_command command (solve is.words) 10 is.asked (2, omega arith, refl)
 answer_in_statuses tells held command outcome stopped is = of_command command (solve is.words) 11 is.asked (3, omega arith, refl)
+answer_in_statuses tells held command outcome bounded is = of_command command (bound_all is.instance) 0 is.asked (0, omega arith, refl)
 answer_in_statuses tells held command outcome listed is = of_command command (patterns is.instance) 0 is.asked (0, omega arith, refl)
 answer_in_statuses tells held command outcome made is = of_command command (make is.words) 0 is.asked (0, omega arith, refl)
+answer_in_statuses tells held command outcome tried_optimal is = of_command command (trial is.words) 0 is.asked (0, omega arith, refl)
+answer_in_statuses tells held command outcome tried_none is = of_command command (trial is.words) 10 is.asked (1, omega arith, refl)
+answer_in_statuses tells held command outcome tried_open is = of_command command (trial is.words) 11 is.asked (2, omega arith, refl)
 answer_in_statuses tells held command outcome refused_proof is = of_command command (check is.words) 5 is.asked (3, omega arith, refl)
 answer_in_statuses tells held command outcome checked is = of_command command (check is.words) 0 is.asked (0, omega arith, refl)
 answer_in_statuses tells held command outcome refused_plan is = (plan_in_statuses command is.name is.named).refused
@@ -132,13 +145,51 @@ module _ (tells : Bool) (held : Held) (command : Option CommandView) (words : So
         some = λ plan feasible. inr (code_of tells held command outcome stopped is, more);
         none = λ none. inr (code_of tells held command outcome stopped is, more);
       })
+  solve_status (bounded, is) = absurd (cc (asked, is.asked))
   solve_status (listed, is) = absurd (cc (asked, is.asked))
   solve_status (made, is) = absurd (cc (asked, is.asked))
+  solve_status (tried_optimal, is) = absurd (cc (asked, is.asked))
+  solve_status (tried_none, is) = absurd (cc (asked, is.asked))
+  solve_status (tried_open, is) = absurd (cc (asked, is.asked))
   solve_status (refused_proof, is) = absurd (cc (asked, is.asked))
   solve_status (checked, is) = absurd (cc (asked, is.asked))
   solve_status (refused_plan, is) = absurd (cc (ap plan_of asked, is.named))
   solve_status (conflict, is) = absurd (cc (ap plan_of asked, is.named))
   solve_status (reported, is) = absurd (asked_no_solve command words is.asked asked is.words)
+
+module _ (tells : Bool) (held : Held) (command : Option CommandView) (words : GeneratedView) (outcome : Outcome) (asked : command ≡ Some (trial words)) where
+  trial_same : (other : GeneratedView) → command ≡ Some (trial other) → SearchEnds (trial_case other) trial_splits outcome.code → SearchEnds (trial_case words) trial_splits outcome.code
+  trial_same other own ends =
+      let same : other ≡ words = cc (asked, own) in
+      subst (λ (w : GeneratedView). SearchEnds (trial_case w) trial_splits outcome.code) same ends
+
+  pub trial_status : IsOutcome tells held command outcome → SearchEnds (trial_case words) trial_splits outcome.code
+  trial_status (usage, is) = absurd (cc (asked, is.asked))
+  trial_status (window, is) = absurd (cc (ap bad_window_of asked, is.asked))
+  trial_status (unread, is) = absurd (cc (ap instance_of asked, is.asked))
+  trial_status (optimal, is) = absurd (cc (asked, is.asked))
+  trial_status (no_plan, is) = absurd (cc (asked, is.asked))
+  trial_status (stopped, is) = absurd (cc (asked, is.asked))
+  trial_status (bounded, is) = absurd (cc (asked, is.asked))
+  trial_status (listed, is) = absurd (cc (asked, is.asked))
+  trial_status (made, is) = absurd (cc (asked, is.asked))
+  trial_status (tried_optimal, is) = trial_same is.words is.asked (record {
+    some = λ plan feasible. inl (code_of tells held command outcome tried_optimal is);
+    none = λ none. absurd (none is.found.plan is.found.least.feasible);
+  })
+  trial_status (tried_none, is) = trial_same is.words is.asked (record {
+    some = λ plan feasible. absurd (is.found.none plan feasible);
+    none = λ none. inl (code_of tells held command outcome tried_none is);
+  })
+  trial_status (tried_open, is) = trial_same is.words is.asked (record {
+    some = λ plan feasible. inr (code_of tells held command outcome tried_open is, is.found.stopped.more);
+    none = λ none. inr (code_of tells held command outcome tried_open is, is.found.stopped.more);
+  })
+  trial_status (refused_proof, is) = absurd (cc (asked, is.asked))
+  trial_status (checked, is) = absurd (cc (asked, is.asked))
+  trial_status (refused_plan, is) = absurd (cc (ap instance_of asked, is.asked))
+  trial_status (conflict, is) = absurd (cc (ap instance_of asked, is.asked))
+  trial_status (reported, is) = absurd (asked_no_trial command words is.asked asked is.words)
 
 module _ (tells : Bool) (held : Held) (command : Option CommandView) (words : CheckView) (whole : List ℕ) (outcome : Outcome) (asked : command ≡ Some (check words)) (holds : held words.instance ≡ Some whole) where
   check_read : (instance : List ℕ) (is : Reading) → instance_of command ≡ Some instance → IsInstance tells held instance is → CheckEnds held words is outcome.code → CheckEnds held words (reading whole) outcome.code
@@ -174,8 +225,12 @@ module _ (tells : Bool) (held : Held) (command : Option CommandView) (words : Ch
   check_status (optimal, is) = absurd (cc (asked, is.asked))
   check_status (no_plan, is) = absurd (cc (asked, is.asked))
   check_status (stopped, is) = absurd (cc (asked, is.asked))
+  check_status (bounded, is) = absurd (cc (asked, is.asked))
   check_status (listed, is) = absurd (cc (asked, is.asked))
   check_status (made, is) = absurd (cc (asked, is.asked))
+  check_status (tried_optimal, is) = absurd (cc (asked, is.asked))
+  check_status (tried_none, is) = absurd (cc (asked, is.asked))
+  check_status (tried_open, is) = absurd (cc (asked, is.asked))
   check_status (refused_proof, is) =
       let same : is.words ≡ words = cc (asked, is.asked) in
       check_read is.words.instance _ (ap instance_of is.asked) is.read
@@ -196,6 +251,30 @@ module _ (tells : Bool) (held : Held) (command : Option CommandView) (words : Ch
       (record { feasible = λ feasible. absurd (is.infeasible feasible); infeasible = λ none. code_of tells held command outcome conflict is })))
   check_status (reported, is) = absurd (asked_no_check command words is.asked asked is.words)
 
+module _ (tells : Bool) (held : Held) (command : Option CommandView) (instance whole : List ℕ) (outcome : Outcome) (asked : command ≡ Some (bound_all instance)) (holds : held instance ≡ Some whole) where
+  bound_read : (own : List ℕ) (is : Reading) → instance_of command ≡ Some own → IsInstance tells held own is → ListingEnds is outcome.code → ListingEnds (reading whole) outcome.code
+  bound_read own is at there ends =
+      subst (λ (r : Reading). ListingEnds r outcome.code) (sym (read_as tells held command instance own whole is holds (ap instance_of asked) at there)) ends
+
+  pub bound_status : IsOutcome tells held command outcome → ListingEnds (reading whole) outcome.code
+  bound_status (usage, is) = absurd (cc (asked, is.asked))
+  bound_status (window, is) = absurd (cc (ap bad_window_of asked, is.asked))
+  bound_status (unread, is) = bound_read is.instance _ is.asked is.read (code_of tells held command outcome unread is)
+  bound_status (optimal, is) = absurd (cc (asked, is.asked))
+  bound_status (no_plan, is) = absurd (cc (asked, is.asked))
+  bound_status (stopped, is) = absurd (cc (asked, is.asked))
+  bound_status (bounded, is) = bound_read is.instance _ (ap instance_of is.asked) is.read (code_of tells held command outcome bounded is)
+  bound_status (listed, is) = absurd (cc (asked, is.asked))
+  bound_status (made, is) = absurd (cc (asked, is.asked))
+  bound_status (tried_optimal, is) = absurd (cc (asked, is.asked))
+  bound_status (tried_none, is) = absurd (cc (asked, is.asked))
+  bound_status (tried_open, is) = absurd (cc (asked, is.asked))
+  bound_status (refused_proof, is) = absurd (cc (asked, is.asked))
+  bound_status (checked, is) = absurd (cc (asked, is.asked))
+  bound_status (refused_plan, is) = absurd (cc (ap plan_of asked, is.named))
+  bound_status (conflict, is) = absurd (cc (ap plan_of asked, is.named))
+  bound_status (reported, is) = absurd (asked_no_bound command instance is.asked asked is.words)
+
 module _ (tells : Bool) (held : Held) (command : Option CommandView) (instance whole : List ℕ) (outcome : Outcome) (asked : command ≡ Some (patterns instance)) (holds : held instance ≡ Some whole) where
   listing_read : (own : List ℕ) (is : Reading) → instance_of command ≡ Some own → IsInstance tells held own is → ListingEnds is outcome.code → ListingEnds (reading whole) outcome.code
   listing_read own is at there ends =
@@ -208,8 +287,12 @@ module _ (tells : Bool) (held : Held) (command : Option CommandView) (instance w
   listing_status (optimal, is) = absurd (cc (asked, is.asked))
   listing_status (no_plan, is) = absurd (cc (asked, is.asked))
   listing_status (stopped, is) = absurd (cc (asked, is.asked))
+  listing_status (bounded, is) = absurd (cc (asked, is.asked))
   listing_status (listed, is) = listing_read is.instance _ (ap instance_of is.asked) is.read (code_of tells held command outcome listed is)
   listing_status (made, is) = absurd (cc (asked, is.asked))
+  listing_status (tried_optimal, is) = absurd (cc (asked, is.asked))
+  listing_status (tried_none, is) = absurd (cc (asked, is.asked))
+  listing_status (tried_open, is) = absurd (cc (asked, is.asked))
   listing_status (refused_proof, is) = absurd (cc (asked, is.asked))
   listing_status (checked, is) = absurd (cc (asked, is.asked))
   listing_status (refused_plan, is) = absurd (cc (ap plan_of asked, is.named))
@@ -233,8 +316,12 @@ module _ (tells : Bool) (held : Held) (command : Option CommandView) (asked : As
   report_status (optimal, is) = absurd (asked_no_solve command is.words asked is.asked words)
   report_status (no_plan, is) = absurd (asked_no_solve command is.words asked is.asked words)
   report_status (stopped, is) = absurd (asked_no_solve command is.words asked is.asked words)
+  report_status (bounded, is) = absurd (asked_no_bound command is.instance asked is.asked words)
   report_status (listed, is) = absurd (asked_no_patterns command is.instance asked is.asked words)
   report_status (made, is) = absurd (asked_no_make command is.words asked is.asked words)
+  report_status (tried_optimal, is) = absurd (asked_no_trial command is.words asked is.asked words)
+  report_status (tried_none, is) = absurd (asked_no_trial command is.words asked is.asked words)
+  report_status (tried_open, is) = absurd (asked_no_trial command is.words asked is.asked words)
   report_status (refused_proof, is) = absurd (asked_no_check command is.words asked is.asked words)
   report_status (checked, is) = absurd (asked_no_check command is.words asked is.asked words)
   report_status (refused_plan, is) =

@@ -12,3 +12,5 @@ pub mod Ends
 pub mod Exactness
 pub mod FedSteps
 pub mod SolveSteps
+pub mod TextSteps
+pub mod TrialSteps

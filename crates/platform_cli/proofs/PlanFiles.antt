@@ -19,7 +19,7 @@ use Rattle.platform_cli.specs.Asked.{Writes, plan_file_of, proof_file_of}
 use Rattle.platform_cli.specs.Answers.{IsBoundTold}
 use Rattle.platform_cli.specs.Given.{NewFile, Outcome}
 use Rattle.platform_cli.specs.Instance.{Held, IsInstance}
-use Rattle.platform_cli.specs.Outcome.{IsOutcome, usage, optimal, no_plan, stopped, checked}
+use Rattle.platform_cli.specs.Outcome.{IsOutcome, usage, optimal, no_plan, stopped, tried_optimal, tried_none, tried_open, checked}
 use Rattle.platform_cli.specs.Run.{Faults, HoldsPlan, HoldsProof, IsNamed, IsOldOrWhole, IsPlanFile, IsProofKept, Now}
 use Rattle.platform_cli.specs.Solve.{IsKnownAbove, IsProofFile, known_files}
 use Rattle.platform_cli.proofs.Files.{is_named}
@@ -88,6 +88,9 @@ files_of tells held command outcome (stopped, is) = inr (record {
   proof = is.found.proof;
   are = ap (λ (o : Outcome). o.files) is.found.is;
 })
+files_of tells held command outcome (tried_optimal, is) = inl (ap (λ (o : Outcome). o.files) is.found.is)
+files_of tells held command outcome (tried_none, is) = inl (ap (λ (o : Outcome). o.files) is.found.is)
+files_of tells held command outcome (tried_open, is) = inl (ap (λ (o : Outcome). o.files) is.found.is)
 files_of tells held command outcome (checked, is) = inl (told_none tells held is.words.plan (rule_case is.station) is.bound outcome is.told)
 files_of tells held command outcome (answer, is) = inl (ap (λ (o : Outcome). o.files) is.is)
 

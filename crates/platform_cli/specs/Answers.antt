@@ -1,6 +1,6 @@
 -- What a run gives, a record for each answer: what the words ask for, what the files are read as, and the outcome.
-use Rattle.std.specs.Prelude.{◌≡◌, ℕ, Bool, List, Option, None, Some, Ok, Err, IfSome}
-use Rattle.command_words.specs.Command.{CommandView, SolveView, CheckView, MakeView, solve, check, patterns, make}
+use Rattle.std.specs.Prelude.{◌≡◌, ◌⊎◌, ℕ, Bool, List, Option, None, Some, Ok, Err, IfSome}
+use Rattle.command_words.specs.Command.{CommandView, SolveView, CheckView, GeneratedView, solve, check, bound_all, patterns, make, trial}
 use Rattle.command_words.specs.Usage.{usage_text}
 use Rattle.station_reader.specs.declared.refusal.RefusedKind.{RefusedKind}
 use Rattle.station_reader.specs.Allowed.{StationRecord}
@@ -16,12 +16,15 @@ use Rattle.leaf_bounds.specs.Laws.{KeepsTo}
 use Rattle.proof_file.specs.Accepted.{IsAccepted}
 use Rattle.proof_rules.specs.declared.refused.ProofRefused.{ProofRefused}
 use Rattle.reports.specs.Text.{patterns_text, conflict_text, plan_refused_text, window_text}
+use Rattle.branching.specs.declared.found.Root.{Root}
+use Rattle.branching.specs.RootLine.{IsRoot}
 use Rattle.platform_cli.specs.declared.asked.Window.{Window}
 use Rattle.platform_cli.specs.Asked.{AskedView, asked_of, bad_window_of, instance_of, plan_of}
 use Rattle.platform_cli.specs.Given.{Outcome, text_outcome}
 use Rattle.platform_cli.specs.Instance.{Held, IsInstance, IsPlan, IsProof}
-use Rattle.platform_cli.specs.Report.{refused_text, report_text, made_text, accepted_text, checked_text, proof_refused_text}
+use Rattle.platform_cli.specs.Report.{refused_text, report_text, made_text, bound_text, accepted_text, checked_text, proof_refused_text}
 use Rattle.platform_cli.specs.Solve.{IsOptimalFor, IsNoPlanFor, IsOpenFor}
+use Rattle.platform_cli.specs.Trial.{IsOptimalTrial, IsNoPlanTrial, IsOpenTrial, trial_case}
 
 -- The words are no command. The usage text is given.
 pub record IsUsage (command : Option CommandView) (outcome : Outcome) : Type 0 where
@@ -75,6 +78,16 @@ pub record IsListed (tells : Bool) (held : Held) (command : Option CommandView) 
   pub read : IsInstance tells held instance (taken station)
   pub is : outcome ≡ text_outcome 0 (patterns_text (rule_case station))
 
+-- Of `bound`: the instance is a station, and what is known of all plans is given: a root line, and what its fraction says.
+pub record IsBounded (tells : Bool) (held : Held) (command : Option CommandView) (outcome : Outcome) : Type 0 where
+  pub instance : List ℕ
+  pub asked : command ≡ Some (bound_all instance)
+  pub station : StationRecord
+  pub read : IsInstance tells held instance (taken station)
+  pub root : Root
+  pub line : IsRoot (rule_case station) root
+  pub is : outcome ≡ text_outcome 0 (bound_text (rule_case station) root)
+
 -- Of `check`: the instance is a station, and the proof isn't accepted. The line names the first refusal with its record.
 pub record IsProofRefused (tells : Bool) (held : Held) (command : Option CommandView) (outcome : Outcome) : Type 0 where
   pub words : CheckView
@@ -106,9 +119,35 @@ pub record IsChecked (tells : Bool) (held : Held) (command : Option CommandView)
 
 -- Of `make`: the text of the station that the number makes is given.
 pub record IsMade (command : Option CommandView) (outcome : Outcome) : Type 0 where
-  pub words : MakeView
+  pub words : GeneratedView
   pub asked : command ≡ Some (make words)
   pub is : outcome ≡ text_outcome 0 (made_text words.number words.trains)
+
+-- Of `trial`: the station that the number makes has a plan of least cost, and that cost is given.
+pub record IsTriedOptimal (command : Option CommandView) (outcome : Outcome) : Type 0 where
+  pub words : GeneratedView
+  pub asked : command ≡ Some (trial words)
+  pub found : IsOptimalTrial (trial_case words) words.trains outcome
+
+-- Of `trial`: no plan of the station that the number makes is feasible, and that is said.
+pub record IsTriedNoPlan (command : Option CommandView) (outcome : Outcome) : Type 0 where
+  pub words : GeneratedView
+  pub asked : command ≡ Some (trial words)
+  pub found : IsNoPlanTrial (trial_case words) words.trains outcome
+
+-- Of `trial`: the splits are spent. What is known of the station that the number makes is given.
+pub record IsTriedOpen (command : Option CommandView) (outcome : Outcome) : Type 0 where
+  pub words : GeneratedView
+  pub asked : command ≡ Some (trial words)
+  pub found : IsOpenTrial (trial_case words) words.trains outcome
+
+-- It is said that no plan is feasible: of `solve`, or of `trial`.
+abbrev pub SaysNoPlan : Bool → Held → Option CommandView → Outcome → Type 0
+SaysNoPlan tells held command outcome = IsNoPlan tells held command outcome ⊎ IsTriedNoPlan command outcome
+
+-- It is said that the splits are spent: of `solve`, or of `trial`.
+abbrev pub SaysOpen : Bool → Held → Option CommandView → Outcome → Type 0
+SaysOpen tells held command outcome = IsOpen tells held command outcome ⊎ IsTriedOpen command outcome
 
 -- The proof that a command reads before a plan is accepted.
 abbrev pub IsProofTaken : Bool → Held → Option CommandView → CaseRecord → Type 0

@@ -1,7 +1,7 @@
 -- What a command reads, writes and reports.
 use Rattle.std.specs.Prelude.{◌≡◌, ◌⊎◌, ℕ, Bool, List, if◌then◌else◌, Option, None, Some}
 use Rattle.std.specs.Option.{option_map, option_and_then}
-use Rattle.command_words.specs.Command.{CommandView, ChartView, solve, check, cost, patterns, platforms, paths}
+use Rattle.command_words.specs.Command.{CommandView, ChartView, solve, check, cost, bound_all, patterns, platforms, paths}
 use Rattle.station_reader.specs.Allowed.{StationRecord}
 use Rattle.station_reader.specs.Reading.{taken}
 use Rattle.diagram.specs.Text.{is_window}
@@ -50,6 +50,7 @@ asked_of command = option_and_then (λ asked. unless_bad (bad_window asked.repor
 abbrev pub instance_of : Option CommandView → Option (List ℕ)
 instance_of (Some (solve words)) = Some words.instance
 instance_of (Some (check words)) = Some words.instance
+instance_of (Some (bound_all instance)) = Some instance
 instance_of (Some (patterns instance)) = Some instance
 instance_of command = option_map (λ asked. asked.instance) (asked_of command)
 

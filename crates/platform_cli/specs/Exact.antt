@@ -1,6 +1,6 @@
 -- The statuses of commands where no call failed and memory was found.
 use Rattle.std.specs.Prelude.{◌≡◌, ◌⊎◌, ℕ, ◌<◌, List, [], ◌∷◌, Option, None, Some, Result, Ok, Err}
-use Rattle.command_words.specs.Command.{CommandView, CheckView, solve, check, cost, patterns, platforms, paths, make}
+use Rattle.command_words.specs.Command.{CommandView, CheckView, solve, check, cost, bound_all, patterns, platforms, paths, make, trial}
 use Rattle.shelf.specs.Outside.{Same, Rose}
 use Rattle.station_reader.specs.Reading.{Reading, taken, refused}
 use Rattle.pair_prices.specs.Case.{CaseRecord, rule_case}
@@ -25,12 +25,14 @@ statuses None = 2 ∷ []
 statuses (Some (solve words)) = 0 ∷ 3 ∷ 10 ∷ 11 ∷ []
 statuses (Some (check words)) = 0 ∷ 3 ∷ 4 ∷ 5 ∷ 9 ∷ []
 statuses (Some (cost instance plan)) = 0 ∷ 3 ∷ 4 ∷ 9 ∷ []
+statuses (Some (bound_all instance)) = 0 ∷ 3 ∷ []
 statuses (Some (patterns instance)) = 0 ∷ 3 ∷ []
 statuses (Some (platforms chart)) = 0 ∷ 3 ∷ 4 ∷ 9 ∷ 12 ∷ []
 statuses (Some (paths chart)) = 0 ∷ 3 ∷ 4 ∷ 9 ∷ 12 ∷ []
 statuses (Some (make words)) = 0 ∷ []
+statuses (Some (trial words)) = 0 ∷ 10 ∷ 11 ∷ []
 
--- `solve` on a station: where some plan is feasible 0, and where none is 10; or, with fewer splits than decide every station
+-- a search of a station: where some plan is feasible 0, and where none is 10; or, with fewer splits than decide every station
 -- like it, 11
 pub record SearchEnds (c : CaseRecord) (splits status : ℕ) : Type 0 where
   pub some : (plan : List ℕ) → IsFeasible c plan → (status ≡ 0) ⊎ ((status ≡ 11) × (splits < split_bound c))
@@ -41,7 +43,7 @@ abbrev pub SolveEnds : ℕ → Reading → ℕ → Type 0
 SolveEnds splits (refused kind place) status = status ≡ 3
 SolveEnds splits (taken station) status = SearchEnds (rule_case station) splits status
 
--- `patterns` on an instance: 3 where it is refused, and 0 otherwise
+-- `bound` and `patterns` on an instance: 3 where it is refused, and 0 otherwise
 abbrev pub ListingEnds : Reading → ℕ → Type 0
 ListingEnds (refused kind place) status = status ≡ 3
 ListingEnds (taken station) status = status ≡ 0

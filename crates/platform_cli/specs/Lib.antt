@@ -12,4 +12,5 @@ pub mod Report
 pub mod Run
 pub mod Solve
 pub mod Statuses
+pub mod Trial
 pub mod View

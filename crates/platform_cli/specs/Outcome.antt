@@ -1,7 +1,7 @@
 -- What the commands give.
 use Rattle.std.specs.Prelude.{Bool, Option}
 use Rattle.command_words.specs.Command.{CommandView}
-use Rattle.platform_cli.specs.Answers.{IsUsage, IsWindow, IsUnread, IsOptimal, IsNoPlan, IsOpen, IsListed, IsMade, IsProofRefused, IsChecked, IsPlanRefused, IsConflict, IsReported}
+use Rattle.platform_cli.specs.Answers.{IsUsage, IsWindow, IsUnread, IsOptimal, IsNoPlan, IsOpen, IsBounded, IsListed, IsMade, IsTriedOptimal, IsTriedNoPlan, IsTriedOpen, IsProofRefused, IsChecked, IsPlanRefused, IsConflict, IsReported}
 use Rattle.platform_cli.specs.Given.{Outcome}
 use Rattle.platform_cli.specs.Instance.{Held}
 
@@ -13,8 +13,12 @@ pub data Answer : Type 0 where
   optimal : Answer
   no_plan : Answer
   stopped : Answer
+  bounded : Answer
   listed : Answer
   made : Answer
+  tried_optimal : Answer
+  tried_none : Answer
+  tried_open : Answer
   refused_proof : Answer
   checked : Answer
   refused_plan : Answer
@@ -28,8 +32,12 @@ IsAnswer unread tells held command outcome = IsUnread tells held command outcome
 IsAnswer optimal tells held command outcome = IsOptimal tells held command outcome
 IsAnswer no_plan tells held command outcome = IsNoPlan tells held command outcome
 IsAnswer stopped tells held command outcome = IsOpen tells held command outcome
+IsAnswer bounded tells held command outcome = IsBounded tells held command outcome
 IsAnswer listed tells held command outcome = IsListed tells held command outcome
 IsAnswer made tells held command outcome = IsMade command outcome
+IsAnswer tried_optimal tells held command outcome = IsTriedOptimal command outcome
+IsAnswer tried_none tells held command outcome = IsTriedNoPlan command outcome
+IsAnswer tried_open tells held command outcome = IsTriedOpen command outcome
 IsAnswer refused_proof tells held command outcome = IsProofRefused tells held command outcome
 IsAnswer checked tells held command outcome = IsChecked tells held command outcome
 IsAnswer refused_plan tells held command outcome = IsPlanRefused tells held command outcome

@@ -11,6 +11,10 @@ use Rattle.reports.specs.Text.{cost_text}
 use Rattle.serde_json.specs.Written.{compact_text}
 use Rattle.station_gen.specs.Json.{json_of}
 use Rattle.station_gen.specs.Made.{made_station}
+use Rattle.exact_lp.specs.declared.answer.WeakCause.{WeakCause}
+use Rattle.exact_lp.specs.declared.answer.WeakCause.TheVariants as causes
+use Rattle.branching.specs.declared.found.Root.{Root}
+use Rattle.branching.specs.RootLine.{root_bound}
 use Rattle.leaf_bounds.specs.declared.tree.Bound.{Bound}
 use Rattle.leaf_bounds.specs.declared.tree.Bound.TheVariants.{AtLeast, Nothing}
 use Rattle.proof_rules.specs.declared.refused.ProofKind.{ProofKind}
@@ -22,12 +26,51 @@ use Rattle.platform_cli.specs.declared.asked.Report.TheVariants.{Cost, Platforms
 abbrev pub line : List ℕ → List ℕ
 line text = text ++ 10 ∷ []
 
--- the word, the plan's cost, and a line for each train
-abbrev pub optimal_text : CaseRecord → List ℕ → List ℕ
-optimal_text c plan = line (codes "Optimal") ++ line (codes "cost " ++ decimal (cost c plan)) ++ timetable_text c plan
+-- the word for why a root line is weak
+abbrev pub cause_text : WeakCause → List ℕ
+cause_text causes.Left = codes "left"
+cause_text (causes.Pivots n) = codes "pivots"
+cause_text (causes.Rounds n) = codes "rounds"
+cause_text (causes.Cells n) = codes "cells"
+cause_text (causes.Scale n) = codes "scale"
 
-abbrev pub no_plan_text : List ℕ
-no_plan_text = line (codes "NoPlan")
+-- whether the fraction is the least cost of a fractional plan
+abbrev pub standing_text : Option WeakCause → List ℕ
+standing_text None = codes "exact"
+standing_text (Some cause) = codes "weak " ++ cause_text cause
+
+-- the root line: a fraction, and how it stands
+unfoldable pub root_text : Root → List ℕ
+root_text root =
+    line (codes "root " ++ signed_decimal root.value.num ++ codes "/" ++ signed_decimal root.value.den ++ codes " " ++ standing_text root.weak)
+
+-- a bound, or that no plan is feasible
+abbrev pub bound_line : Bound → List ℕ
+bound_line (AtLeast n) = line (codes "bound " ++ signed_decimal n)
+bound_line Nothing = line (codes "bound none")
+
+-- the root line, and what its fraction says of the cost of plans
+unfoldable pub bound_text : CaseRecord → Root → List ℕ
+bound_text c root = root_text root ++ bound_line (root_bound c root.value)
+
+-- a cost, or that none is known
+abbrev pub price_line : Option ℤ → List ℕ
+price_line None = line (codes "cost none")
+price_line (Some n) = line (codes "cost " ++ signed_decimal n)
+
+-- the summary of a trial: its trains, how the search ended, the cost and the bound that are known, the root line, and that the proof
+-- of this run is accepted
+unfoldable pub trial_text : ℕ → List ℕ → Option ℤ → Bound → Root → List ℕ
+trial_text trains word price bound root =
+    line (codes "trains " ++ decimal trains) ++ line word ++ price_line price ++ bound_line bound ++ root_text root ++ line (codes "proof accepted")
+
+-- the word, the plan's cost, the root line, and a line for each train
+abbrev pub optimal_text : CaseRecord → List ℕ → Root → List ℕ
+optimal_text c plan root = line (codes "Optimal") ++ line (codes "cost " ++ decimal (cost c plan)) ++ root_text root ++ timetable_text c plan
+
+-- the word, and the root line
+abbrev pub no_plan_text : Root → List ℕ
+no_plan_text root = line (codes "NoPlan") ++ root_text root
 
 -- the number and the word of each class of refusal
 abbrev pub class_text : RefusedKind → List ℕ
@@ -62,9 +105,11 @@ known_timetable c (Some plan) = timetable_text c plan
 unfoldable pub spent_lines : ℤ → ℕ → List ℕ
 spent_lines bound splits = line (codes "bound " ++ signed_decimal bound) ++ line (codes "splits " ++ decimal splits)
 
--- where the splits are spent: the cost of the plan that is known, the bound, the splits, and a line for each train of the plan
-abbrev pub open_text : CaseRecord → Option (List ℕ) → ℤ → ℕ → List ℕ
-open_text c known bound splits = line (codes "Open") ++ line (known_cost c known) ++ spent_lines bound splits ++ known_timetable c known
+-- where the splits are spent: the cost of the plan that is known, the bound, the splits, the root line, and a line for each train of
+-- the plan
+abbrev pub open_text : CaseRecord → Option (List ℕ) → ℤ → ℕ → Root → List ℕ
+open_text c known bound splits root =
+    line (codes "Open") ++ line (known_cost c known) ++ spent_lines bound splits ++ root_text root ++ known_timetable c known
 
 -- what is reported of a feasible plan: its costs, or a chart
 abbrev pub report_text : Report → CaseRecord → List ℕ → List ℕ

@@ -13,7 +13,9 @@ use Rattle.leaf_bounds.specs.Shown.{IsTreeOf, TreeStands, bound_of_tree}
 use Rattle.leaf_bounds.specs.Tree.{SplitTree, split_count}
 use Rattle.primal_heuristic.specs.Greedy.{greedy_plan}
 use Rattle.branching.specs.Answer.{split_bound}
-use Rattle.branching.specs.Bounds.{EachSplitIsWithin}
+use Rattle.branching.specs.Bounds.{EachSplitIsWithin, IsAtLeast}
+use Rattle.branching.specs.declared.found.Root.{Root}
+use Rattle.branching.specs.RootLine.{rounded_up, IsRoot, IsTopOrMore, ReachesGreedy}
 use Rattle.shared_trees.specs.Written.{IsWrittenOf}
 use Rattle.proof_file.specs.Accepted.{IsAccepted}
 use Rattle.command_words.specs.Command.{SolveView}
@@ -70,23 +72,40 @@ IsProofFile c bound tree None files = files ≡ []
 IsProofFile c bound tree (Some name) files =
     (text : List ℕ) × IsWrittenProof c bound tree text × (files ≡ record { name = name; bytes = text } ∷ [])
 
+-- The root line of a search whose tree has that bound: it is the value of a leaf for all plans, and the root value of the station
+-- unless it is weak, and the bound isn't below it, rounded up.
+pub record IsRootLine (c : CaseRecord) (bound : Bound) (root : Root) : Type 0 where
+  pub line : IsRoot c root
+  pub above : IsAtLeast (rounded_up root.value) bound
+
+-- The root line decides nothing: it is below TOP, and rounded up it doesn't reach the cost of the greedy plan.
+pub record IsUndecided (c : CaseRecord) (root : Root) : Type 0 where
+  pub below_top : IsTopOrMore c root.value → ⊥
+  pub unreached : ReachesGreedy c root.value → ⊥
+
 -- The plan is feasible, and no feasible plan costs less. Its report is given, its text under the name of the plan's file, and a
 -- proof with its cost as the bound under that of the proof's file.
 pub record IsOptimalFor (c : CaseRecord) (words : SolveView) (outcome : Outcome) : Type 0 where
   pub plan : List ℕ
   pub least : IsLeastPlan c plan
+  pub root : Root
+  pub root_line : IsRootLine c (AtLeast (pos (cost c plan))) root
+  pub below_top : IsTopOrMore c root.value → ⊥
   pub tree : SplitTree Leaf
   pub proofs : List NewFile
   pub proof : IsProofFile c (AtLeast (pos (cost c plan))) tree words.proof proofs
-  pub is : outcome ≡ record { code = 0; text = optimal_text c plan; files = plan_files words.plan plan ++ proofs }
+  pub is : outcome ≡ record { code = 0; text = optimal_text c plan root; files = plan_files words.plan plan ++ proofs }
 
 -- No plan is feasible. That is said, and no plan's file is written. The proof's file gets a proof that there is no plan.
 pub record IsNoPlanFor (c : CaseRecord) (words : SolveView) (outcome : Outcome) : Type 0 where
   pub none : HasNoPlan c
+  pub root : Root
+  pub root_line : IsRootLine c Nothing root
+  pub unreached : ReachesGreedy c root.value → ⊥
   pub tree : SplitTree Leaf
   pub proofs : List NewFile
   pub proof : IsProofFile c Nothing tree words.proof proofs
-  pub is : outcome ≡ record { code = 10; text = no_plan_text; files = proofs }
+  pub is : outcome ≡ record { code = 10; text = no_plan_text root; files = proofs }
 
 -- The splits are spent. What is known is given: a plan, the bound that a tree shows, and that tree in the proof's file.
 pub record IsOpenFor (c : CaseRecord) (words : SolveView) (outcome : Outcome) : Type 0 where
@@ -95,9 +114,12 @@ pub record IsOpenFor (c : CaseRecord) (words : SolveView) (outcome : Outcome) : 
   pub tree : SplitTree Leaf
   pub stopped : IsStopped c words.splits known bound tree
   pub bounds : (plan : List ℕ) → IsFeasible c plan → KeepsTo c plan (AtLeast bound)
+  pub root : Root
+  pub root_line : IsRootLine c (AtLeast bound) root
+  pub undecided : IsUndecided c root
   pub proofs : List NewFile
   pub proof : IsProofFile c (AtLeast bound) tree words.proof proofs
-  pub is : outcome ≡ record { code = 11; text = open_text c known bound words.splits; files = known_files words.plan known ++ proofs }
+  pub is : outcome ≡ record { code = 11; text = open_text c known bound words.splits root; files = known_files words.plan known ++ proofs }
 
 -- what a search gives
 abbrev pub IsSolved : CaseRecord → SolveView → Outcome → Type 0

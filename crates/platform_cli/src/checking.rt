@@ -73,7 +73,11 @@ fn check_file<S: Shelf>(
     }
 }
 
-fn refused_proof_output(alloc: Global, refused: &ProofRefused) -> Result<Output, AllocError>
+/// The kind and the record of a refused proof.
+pub(crate) fn refused_proof_output(
+    alloc: Global,
+    refused: &ProofRefused,
+) -> Result<Output, AllocError>
     ensures { IfOk result (λ output. outcome_of output ≡ text_outcome 5 (proof_refused_text refused.now)) }
 {
     let text = proof_refused_text(alloc, refused)?;

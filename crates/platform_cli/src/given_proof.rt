@@ -1,6 +1,6 @@
 // The proof that a command checks: each piece that is read of its file is fed to a checker, and no more is read once the
 // checker has refused it.
-ghost use Rattle.std.specs.Prelude.{◌≡◌, ◌<◌, ◌≤◌, List, ℕ, length, IfOk, OnOk, IsErrOf, IsSome, IsTrue, None};
+ghost use Rattle.std.specs.Prelude.{◌≡◌, ◌<◌, ◌≤◌, List, ℕ, length, IfOk, OnOk, IsErrOf, IsSome, IsTrue, None, Some};
 ghost use Rattle.shelf.specs.Outside.{Same};
 ghost use Rattle.platform_cli.specs.Instance.{IsProof};
 ghost use Rattle.platform_cli.specs.Fed.{IsFed, IsFedOn};
@@ -115,6 +115,34 @@ fn feed_piece<S: Shelf>(
         Err(CheckFault::Refused(refused)) => Ok(Fed::Refused(refused)),
         Err(CheckFault::Memory) => Err(Stop::Memory),
     }
+}
+
+/// Checks the text of a proof, in pieces as a file's are read.
+pub(crate) fn check_text(alloc: Global, case: &Case, text: &[u8]) -> Result<GivenProof, Stop>
+    ensures read { IfOk result (λ given. proof_reading_of given ≡ verdict case.now text.now) }
+    ensures no_read { IsErrOf result Stop.ReadFault → ⊥ }
+    ensures no_write { IsErrOf result Stop.WriteFault → ⊥ }
+{
+    let checker = Checker::new(alloc, case)?;
+    check_text_by_pieces(checker, text)
+}
+
+fn check_text_by_pieces(mut checker: Checker<'_>, text: &[u8]) -> Result<GivenProof, Stop>
+    requires fed { IsFed (Some text.now) (case_in checker) checker 0 }
+    ensures read { IfOk result (λ given. proof_reading_of given ≡ verdict (case_in checker.entry) text.now) }
+    ensures no_read { IsErrOf result Stop.ReadFault → ⊥ }
+    ensures no_write { IsErrOf result Stop.WriteFault → ⊥ }
+{
+    let mut from = 0;
+    while from < text.len() {
+        let end = text.len().min(from + PIECE);
+        match checker.feed(&text[from..end]) {
+            Ok(()) => from = end,
+            Err(CheckFault::Refused(refused)) => return Ok(GivenProof::Refused(refused)),
+            Err(CheckFault::Memory) => return Err(Stop::Memory),
+        }
+    }
+    finished(checker)
 }
 
 fn finished(checker: Checker<'_>) -> Result<GivenProof, Stop>

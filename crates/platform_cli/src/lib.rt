@@ -2,11 +2,13 @@
 #![tactic(auto)]
 
 mod asked;
+mod bounding;
 mod checking;
 mod delivery;
 mod given_proof;
 mod instance;
 mod judging;
+mod limits;
 mod listing;
 mod making;
 mod output;
@@ -16,6 +18,7 @@ mod reading;
 mod report;
 mod solve;
 mod top;
+mod trial;
 mod work;
 
 pub use top::{Status, run};

@@ -1,5 +1,6 @@
 // The lines on a proof: its bound, a plan beside it, or why it is refused.
 ghost use Rattle.std.specs.Prelude.{◌≡◌, IfOk, pos};
+ghost use Rattle.leaf_bounds.specs.declared.tree.Bound.TheVariants.{AtLeast};
 ghost use Rattle.platform_cli.specs.Report.{accepted_text, checked_text, is_shown, kind_text, proof_refused_text, shown_line};
 
 use leaf_bounds::Bound;
@@ -35,6 +36,20 @@ fn kind_text(kind: ProofKind) -> &'static str
         ProofKind::Long => "10 Long",
         ProofKind::Sum => "11 Sum",
     }
+}
+
+/// A plan's cost as a bound.
+pub(crate) fn bound_of_cost(cost: &i64) -> Bound
+    ensures { result ≡ AtLeast cost.now }
+{
+    Bound::AtLeast(*cost as i128)
+}
+
+/// A number as a bound.
+pub(crate) fn bound_of(number: &i128) -> Bound
+    ensures { result ≡ AtLeast number.now }
+{
+    Bound::AtLeast(*number)
 }
 
 /// The bound of an accepted proof.

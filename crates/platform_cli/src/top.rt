@@ -1,15 +1,16 @@
 // The top call.
 ghost use Rattle.std.specs.Prelude.{◌≡◌, ◌⊎◌, ◌<◌, ◌≤◌, ◌≢◌, List, ℕ, map, string_bytes, Contains, None, Some};
 ghost use Rattle.std.specs.Io.KnownBytes.{Keeps};
-ghost use Rattle.command_words.specs.Command.{CheckView, MakeView, SolveView, check, command_of, make, patterns, solve};
+ghost use Rattle.command_words.specs.Command.{CheckView, GeneratedView, SolveView, bound_all, check, command_of, make, patterns, solve, trial};
 ghost use Rattle.shelf.specs.Outside.{Same, Rose};
 ghost use Rattle.station_reader.specs.Reading.{reading};
 ghost use Rattle.platform_cli.specs.declared.asked.Window.{Window};
-ghost use Rattle.platform_cli.specs.Answers.{IsUsage, IsWindow, IsUnread, IsOptimal, IsNoPlan, IsOpen, IsListed, IsMade, IsProofRefused, IsChecked, IsPlanRefused, IsConflict, IsReported};
+ghost use Rattle.platform_cli.specs.Answers.{IsUsage, IsWindow, IsUnread, IsOptimal, IsBounded, IsListed, IsMade, IsTriedOptimal, SaysNoPlan, SaysOpen, IsProofRefused, IsChecked, IsPlanRefused, IsConflict, IsReported};
 ghost use Rattle.platform_cli.specs.Asked.{AskedView, Reads, Writes, asked_of, bad_window_of};
-ghost use Rattle.platform_cli.specs.Exact.{NoCallFailed, SolveEnds, CheckEnds, ListingEnds, ReportEnds, statuses};
+ghost use Rattle.platform_cli.specs.Exact.{NoCallFailed, SearchEnds, SolveEnds, CheckEnds, ListingEnds, ReportEnds, statuses};
 ghost use Rattle.platform_cli.specs.Run.{IsFinished, IsEnded, IsDone, IsCut, IsCutOff, IsNothing, IsPlanFile, IsProofKept, WasGiven};
 ghost use Rattle.platform_cli.specs.Statuses.{stop_code};
+ghost use Rattle.platform_cli.specs.Trial.{trial_case, trial_splits};
 
 use crate::delivery::deliver;
 use crate::output::Stop;
@@ -46,21 +47,23 @@ pub struct Status {
 pub fn run<S: Shelf, K: Sink>(alloc: Global, words: &[String], shelf: &mut S, out: &mut K) -> Status
     // Status 0 of `solve`: what the shelf holds under INSTANCE is a station, the report names a feasible plan of it
     // at the printed cost, no feasible plan costs less, the plan's FILE has its text, and the proof's FILE a proof that is
-    // accepted with the cost as its bound.
+    // accepted with the cost as its bound. The root line is the value of a leaf for all plans, rounded up at most the cost, and
+    // where it says exact the root value of the station.
     ensures optimal { (search : SolveView) → command_of (map string_bytes words.now) ≡ Some (solve search) → result.code ≡ 0
         → WasGiven (IsOptimal S.tells (S.held shelf.old) (command_of (map string_bytes words.now))) S.tells
         (S.held shelf.old) (S.held shelf.new) (K.written out.old) (K.written out.new) }
 
-    // Status 10: it is `solve`, of a station without a feasible plan. The report says so, and the proof's FILE has a proof that
-    // is accepted with no plan.
-    ensures no_plan { result.code ≡ 10 → WasGiven (IsNoPlan S.tells (S.held shelf.old) (command_of (map string_bytes words.now))) S.tells
+    // Status 10: it is `solve` or `trial`, of a station without a feasible plan. The report says so, and the proof's FILE has a proof
+    // that is accepted with no plan. The root line is as above.
+    ensures no_plan { result.code ≡ 10 → WasGiven (SaysNoPlan S.tells (S.held shelf.old) (command_of (map string_bytes words.now))) S.tells
         (S.held shelf.old) (S.held shelf.new) (K.written out.old) (K.written out.new) }
 
-    // Status 11: it is `solve`, and the stated splits are spent: a tree that stands has just as many, at each of its splits the
+    // Status 11: it is `solve` or `trial`, and the stated splits are spent, of `trial` 50: a tree that stands has just as many, at each of its splits the
     // least prices sum to at most its bound, more splits could decide the station, and the bound is below the printed cost.
     // The report names the best known plan, which costs at most what the greedy plan costs, or none where there is no greedy
-    // plan, and the tree's bound, which every feasible plan keeps to. The proof's FILE has that tree.
-    ensures stopped { result.code ≡ 11 → WasGiven (IsOpen S.tells (S.held shelf.old) (command_of (map string_bytes words.now))) S.tells
+    // plan, and the tree's bound, which every feasible plan keeps to. The proof's FILE has that tree. The root line is as above,
+    // rounded up at most the bound, and it is below TOP and doesn't reach the greedy plan's cost.
+    ensures stopped { result.code ≡ 11 → WasGiven (SaysOpen S.tells (S.held shelf.old) (command_of (map string_bytes words.now))) S.tells
         (S.held shelf.old) (S.held shelf.new) (K.written out.old) (K.written out.new) }
 
     // Status 0 of `check`: whoever wrote the proof, every feasible plan keeps to the printed bound, and there is none where no
@@ -69,14 +72,26 @@ pub fn run<S: Shelf, K: Sink>(alloc: Global, words: &[String], shelf: &mut S, ou
         → WasGiven (IsChecked S.tells (S.held shelf.old) (command_of (map string_bytes words.now))) S.tells
         (S.held shelf.old) (S.held shelf.new) (K.written out.old) (K.written out.new) }
 
+    // Status 0 of `bound`: what the shelf holds under INSTANCE is a station, and a root line of it is given: the value of a leaf for all
+    // plans, and the root value of the station unless it is weak, with what that says of the cost of plans.
+    ensures bounded { (instance : List ℕ) → command_of (map string_bytes words.now) ≡ Some (bound_all instance) → result.code ≡ 0
+        → WasGiven (IsBounded S.tells (S.held shelf.old) (command_of (map string_bytes words.now))) S.tells
+        (S.held shelf.old) (S.held shelf.new) (K.written out.old) (K.written out.new) }
+
     // Status 0 of `patterns`: what the shelf holds under INSTANCE is a station, and its patterns are listed.
     ensures listed { (instance : List ℕ) → command_of (map string_bytes words.now) ≡ Some (patterns instance) → result.code ≡ 0
         → WasGiven (IsListed S.tells (S.held shelf.old) (command_of (map string_bytes words.now))) S.tells
         (S.held shelf.old) (S.held shelf.new) (K.written out.old) (K.written out.new) }
 
     // Status 0 of `make`: the station that the number makes is given as text.
-    ensures made { (numbers : MakeView) → command_of (map string_bytes words.now) ≡ Some (make numbers) → result.code ≡ 0
+    ensures made { (numbers : GeneratedView) → command_of (map string_bytes words.now) ≡ Some (make numbers) → result.code ≡ 0
         → WasGiven (IsMade (command_of (map string_bytes words.now))) S.tells
+        (S.held shelf.old) (S.held shelf.new) (K.written out.old) (K.written out.new) }
+
+    // Status 0 of `trial`: the station that the number makes has a plan of the printed cost, no feasible plan costs less, and a proof is
+    // accepted with that bound. The root line is as above.
+    ensures tried { (numbers : GeneratedView) → command_of (map string_bytes words.now) ≡ Some (trial numbers) → result.code ≡ 0
+        → WasGiven (IsTriedOptimal (command_of (map string_bytes words.now))) S.tells
         (S.held shelf.old) (S.held shelf.new) (K.written out.old) (K.written out.new) }
 
     // Status 0 of `cost`, `platforms` and `paths`: the plan's text is a plan of the station, it is feasible, and the
@@ -149,9 +164,15 @@ pub fn run<S: Shelf, K: Sink>(alloc: Global, words: &[String], shelf: &mut S, ou
     ensures solve_exact { (search : SolveView) (whole : List ℕ) → command_of (map string_bytes words.now) ≡ Some (solve search) → S.held shelf.old search.instance ≡ Some whole
         → NoCallFailed (S.read_faults shelf.old) (S.read_faults shelf.new) (S.write_faults shelf.old) (S.write_faults shelf.new) (K.faults out.old) (K.faults out.new)
         → result.code ≢ 8 → SolveEnds search.splits (reading whole) result.code }
+    ensures trial_exact { (numbers : GeneratedView) → command_of (map string_bytes words.now) ≡ Some (trial numbers)
+        → NoCallFailed (S.read_faults shelf.old) (S.read_faults shelf.new) (S.write_faults shelf.old) (S.write_faults shelf.new) (K.faults out.old) (K.faults out.new)
+        → result.code ≢ 8 → SearchEnds (trial_case numbers) trial_splits result.code }
     ensures check_exact { (files : CheckView) (whole : List ℕ) → command_of (map string_bytes words.now) ≡ Some (check files) → S.held shelf.old files.instance ≡ Some whole
         → NoCallFailed (S.read_faults shelf.old) (S.read_faults shelf.new) (S.write_faults shelf.old) (S.write_faults shelf.new) (K.faults out.old) (K.faults out.new)
         → result.code ≢ 8 → CheckEnds (S.held shelf.old) files (reading whole) result.code }
+    ensures bound_exact { (instance whole : List ℕ) → command_of (map string_bytes words.now) ≡ Some (bound_all instance) → S.held shelf.old instance ≡ Some whole
+        → NoCallFailed (S.read_faults shelf.old) (S.read_faults shelf.new) (S.write_faults shelf.old) (S.write_faults shelf.new) (K.faults out.old) (K.faults out.new)
+        → result.code ≢ 8 → ListingEnds (reading whole) result.code }
     ensures patterns_exact { (instance whole : List ℕ) → command_of (map string_bytes words.now) ≡ Some (patterns instance) → S.held shelf.old instance ≡ Some whole
         → NoCallFailed (S.read_faults shelf.old) (S.read_faults shelf.new) (S.write_faults shelf.old) (S.write_faults shelf.new) (K.faults out.old) (K.faults out.new)
         → result.code ≢ 8 → ListingEnds (reading whole) result.code }

@@ -10,12 +10,14 @@ ghost use Rattle.platform_cli.specs.Outcome.{IsOutcome};
 ghost use Rattle.platform_cli.specs.View.{asked_view, chart_asked, outcome_of};
 
 use crate::asked::{Asked, Report, Window};
+use crate::bounding::bound_plans;
 use crate::checking::check;
 use crate::judging::report_on_plan;
 use crate::listing::list_patterns;
 use crate::making::made_output;
 use crate::output::{Ending, Output, Stop};
 use crate::solve::solve;
+use crate::trial::trial_output;
 use command_words::{Chart, Command, read_words, usage};
 use shelf::Shelf;
 use std::alloc::{AllocError, Global};
@@ -63,6 +65,7 @@ fn command_output<S: Shelf>(
             };
             report_on_plan(alloc, shelf, &asked)
         }
+        Command::Bound(words) => bound_plans(alloc, shelf, words.instance),
         Command::Patterns(words) => list_patterns(alloc, shelf, words.instance),
         Command::Platforms(chart) => {
             let report = Report::Platforms(window_of(chart));
@@ -73,6 +76,7 @@ fn command_output<S: Shelf>(
             report_on_plan(alloc, shelf, &chart_asked(chart, report))
         }
         Command::Make(words) => Ok(made_output(alloc, words)?),
+        Command::Trial(words) => trial_output(alloc, words),
     }
 }
 

@@ -8,7 +8,7 @@ use Rattle.std.proofs.lemmas.List.FromFn.{get_or-map-range_with_len, length-map-
 use Rattle.std.proofs.lemmas.List.Sums.{sum_by-cons}
 use Rattle.transport.specs.declared.entries.Entry.{Entry}
 use Rattle.transport.specs.Core.{entry_at, no_entry, only_at, lifted, cost_in, IsFeasible, IsPlaced, IsSolved}
-use Rattle.transport.specs.Kept.{kept_from, whole_entry, IsPlacement, IsSolvedAt}
+use Rattle.transport.specs.Kept.{kept_from, whole_entry, IsPlacement, IsShownSolved, IsSolvedAt}
 use Rattle.transport.specs.Spread.{AreMostColumns, AreMostRows}
 use Rattle.transport.proofs.Duality.{dot, dot_same, keyed, weight_in, weight_grouped}
 use Rattle.transport.proofs.Keeping.{IsKept, is_kept, look, look_is, look_at}
@@ -176,8 +176,8 @@ module _ (t : ℕ → ℕ → ℕ) (left right rows columns : List ℕ) (es : Li
       (λ j jl. let c = mc.caps j jl in omega arith)
 
   -- the potentials of the rows and columns kept, and 0 elsewhere, show that the cost is least
-  pub solved_cost : IsSolvedAt t left right (cost_in (λ a b. t (slice_index rows a) (slice_index columns b)) es)
-  solved_cost =
+  pub solved_bare : IsShownSolved t left right (map (whole_entry rows columns) es)
+  solved_bare =
       let R' : List ℕ = map (look rows R) (range_with_len 0 (length left)) in
       let K' : List ℕ = map (look columns K) (range_with_len 0 (length right)) in
       let rl : length R' ≡ length left = length-map-range_with_len (look rows R) 0 (length left) in
@@ -200,7 +200,6 @@ module _ (t : ℕ → ℕ → ℕ) (left right rows columns : List ℕ) (es : Li
       (look_is columns K j))
       (λ z. let c = caps_column j in omega arith)
       (look_is rows R i) in (
-        map (whole_entry rows columns) es,
         R',
         K',
         solved_from R' K' rl cl
@@ -209,5 +208,7 @@ module _ (t : ℕ → ℕ → ℕ) (left right rows columns : List ℕ) (es : Li
             (λ b bl. let k : b < length columns = let e = column_long in omega arith in let e = at_column (slice_index columns b) (column_in b k) in let f = look_at columns K b column_kept.rising k bl in omega arith)
             (λ i il. let a = at_row i (omega arith) in let c = caps_row i in omega arith)
             (λ j jl. let a = at_column j (omega arith) in let c = caps_column j in omega arith),
-        cost_mapped t rows columns es,
       )
+
+  pub solved_cost : IsSolvedAt t left right (cost_in (λ a b. t (slice_index rows a) (slice_index columns b)) es)
+  solved_cost = (map (whole_entry rows columns) es, solved_bare.0, solved_bare.1, solved_bare.2, cost_mapped t rows columns es)

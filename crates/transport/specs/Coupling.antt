@@ -76,6 +76,12 @@ pub record IsLeastCoupling (costs : ℕ → ℕ → ℕ) (left right : List ℤ)
   pub alpha_size : All (λ a. unsigned_abs a ≤ 100000000000000) alpha
   pub beta_size : All (λ b. unsigned_abs b ≤ 100000000000000) beta
 
+-- a least coupling of the two lists, with some potentials that show it
+pub record IsShownLeast (costs : ℕ → ℕ → ℕ) (left right : List ℤ) (cells : List TableCell) : Type 0 where
+  pub alpha : List ℤ
+  pub beta : List ℤ
+  pub least : IsLeastCoupling costs left right cells alpha beta
+
 -- n is the cost of a coupling of the two lists, and no coupling costs less
 pub record IsLeastCost (costs : ℕ → ℕ → ℕ) (left right : List ℤ) (n : ℤ) : Type 0 where
   pub reached : (cells : List TableCell) × IsCoupling left right cells × (cost_of costs cells ≡ n)

@@ -29,6 +29,10 @@ pub record IsPlacement (t : ℕ → ℕ → ℕ) (left right : List ℕ) (es : L
   pub row_caps : (i : ℕ) → i < length rows → slice_index rows i ≤ 20000000000000
   pub column_caps : (j : ℕ) → j < length columns → slice_index columns j ≤ 20000000000000
 
+-- some potentials show that the entries place the weights at least cost
+abbrev pub IsShownSolved : (ℕ → ℕ → ℕ) → List ℕ → List ℕ → List Entry → Type 0
+IsShownSolved t left right es = (rows : List ℕ) × (columns : List ℕ) × IsSolved t left right es rows columns
+
 -- the weights can be placed at this cost, with potentials that show that it is least
 abbrev pub IsSolvedAt : (ℕ → ℕ → ℕ) → List ℕ → List ℕ → ℕ → Type 0
 IsSolvedAt t left right cost =

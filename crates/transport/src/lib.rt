@@ -4,7 +4,8 @@
 ghost use Rattle.std.specs.Prelude.{◌≡◌, ℕ, ◌<◌, ◌≤◌, ◌+◌, ◌*◌, ◌^◌, ℤ, pos, ◌+ℤ◌, ◌≤ℤ◌, ◌<ℤ◌, List, length, IfOk, OnOk, unsigned_abs, sum, Err, ◌↔◌};
 ghost use Rattle.std.specs.List.{All, sum_by};
 ghost use Rattle.transport.specs.Core.{IsSolved, IsTidy};
-ghost use Rattle.transport.specs.Coupling.{total, IsLeastCost, IsLeastCoupling, IsTotalAbove};
+ghost use Rattle.transport.specs.Coupling.{total, IsLeastCost, IsLeastCoupling, IsShownLeast, IsTotalAbove};
+ghost use Rattle.transport.specs.Kept.{IsShownSolved};
 
 use std::alloc::{AllocError, Global};
 use std::marker::Model;
@@ -20,8 +21,9 @@ mod solve;
 mod spread;
 
 use convert::{cells_of, sizes, total_size, unlifted};
+use entries::Entry;
 use order::tidied;
-use solve::{Solved, solve, solve_cost};
+use solve::{Solved, solve, solve_cost, solve_entries};
 
 /// A table of costs. `table` is its meaning: what a row and a column cost together, in price units, from 0 to 10^13.
 pub trait Cost {
@@ -198,6 +200,31 @@ pub fn couple<C: Cost>(
     Ok(couple_within(alloc, left, right, cost)?)
 }
 
+/// The cells of a least coupling, as `couple` gives them, without its potentials. Conditions and faults are those of
+/// `couple`.
+///
+/// Time: the search of `couple`. Rows and columns without weight cost one look at the weight.
+pub fn couple_cells<C: Cost>(
+    alloc: Global,
+    left: &[i128],
+    right: &[i128],
+    cost: &C,
+) -> Result<Cells, NoCouple>
+    requires rows { length left.now ≡ C.row_count cost.now }
+    requires columns { length right.now ≡ C.column_count cost.now }
+    requires some_row { 0 < length left.now }
+    requires some_column { 0 < length right.now }
+    requires left_weights { All (λ w. pos 0 ≤ℤ w) left.now }
+    requires right_weights { All (λ w. pos 0 ≤ℤ w) right.now }
+    requires totals { total left.now ≡ total right.now }
+    requires bounded { total left.now <ℤ pos (2 ^ 127) }
+    ensures coupled { IfOk result (λ cells. IsShownLeast (C.table cost.now) left.now right.now cells) }
+    ensures scale { (n : ℤ) → (result ≡ Err (NoCouple.Scale n)) ↔ IsTotalAbove left.now n }
+{
+    check_total(left)?;
+    Ok(cells_within(alloc, left, right, cost)?)
+}
+
 /// The least cost of a coupling of two lists of weights with equal totals, at most 10^37. Conditions
 /// and faults are those of `couple`.
 ///
@@ -265,6 +292,48 @@ fn couple_within<C: Cost>(
         alpha: Numbers::new(alpha),
         beta: Numbers::new(beta),
     })
+}
+
+/// The answer of `couple_cells` for a total that is taken.
+fn cells_within<C: Cost>(
+    alloc: Global,
+    left: &[i128],
+    right: &[i128],
+    cost: &C,
+) -> Result<Cells, AllocError>
+    requires rows { length left.now ≡ C.row_count cost.now }
+    requires columns { length right.now ≡ C.column_count cost.now }
+    requires left_weights { All (λ w. pos 0 ≤ℤ w) left.now }
+    requires right_weights { All (λ w. pos 0 ≤ℤ w) right.now }
+    requires totals { total left.now ≡ total right.now }
+    requires scale { sum_by unsigned_abs left.now ≤ 10 ^ 24 }
+    ensures { IfOk result (λ cells. IsShownLeast (C.table cost.now) left.now right.now cells) }
+{
+    let supply = sizes(alloc, left)?;
+    let demand = sizes(alloc, right)?;
+    let entries = best_entries(alloc, cost, &supply, &demand)?;
+    let cells = cells_of(alloc, &entries)?;
+    Ok(Cells::new(cells))
+}
+
+/// The weights placed at least cost, in order.
+fn best_entries<C: Cost>(
+    alloc: Global,
+    cost: &C,
+    left: &[u128],
+    right: &[u128],
+) -> Result<Vec<Entry>, AllocError>
+    requires rows { length left.now ≡ C.row_count cost.now }
+    requires columns { length right.now ≡ C.column_count cost.now }
+    requires totals { sum left.now ≡ sum right.now }
+    requires scale { sum left.now ≤ 10 ^ 24 }
+    ensures solved { IfOk result (λ es. IsShownSolved (C.table cost.now) left.now right.now es.items) }
+    ensures tidy { IfOk result (λ es. IsTidy es.items) }
+    ensures fits { IfOk result (λ es. All (λ e. e.weight < 2 ^ 127) es.items) }
+{
+    let entries = solve_entries(alloc, cost, left, right)?;
+    let merged = tidied(alloc, entries)?;
+    Ok(merged)
 }
 
 /// The answer of `least_cost` for a total that is taken.

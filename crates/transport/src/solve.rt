@@ -3,7 +3,7 @@
 
 ghost use Rattle.std.specs.Prelude.{◌≡◌, ℕ, ◌<◌, ◌≤◌, ◌*◌, ◌^◌, length, map, slice_index, sum, sum_by, IfOk, All};
 ghost use Rattle.transport.specs.Core.{IsSolved, cost_in};
-ghost use Rattle.transport.specs.Kept.{IsPlacement, IsSolvedAt, kept_from};
+ghost use Rattle.transport.specs.Kept.{IsPlacement, IsShownSolved, IsSolvedAt, kept_from};
 
 use crate::Cost;
 use crate::entries::Entry;
@@ -95,6 +95,51 @@ pub fn solve<C: Cost>(
     let rows = places_of(alloc, left)?;
     let columns = places_of(alloc, right)?;
     solve_kept(alloc, cost, left, right, &rows, &columns)
+}
+
+/// Places the weights at least cost, where the rows and columns with weight are known.
+fn entries_kept<C: Cost>(
+    alloc: Global,
+    cost: &C,
+    left: &[u128],
+    right: &[u128],
+    rows: &[usize],
+    columns: &[usize],
+) -> Result<Vec<Entry>, AllocError>
+    requires left { length left.now ≡ C.row_count cost.now }
+    requires right { length right.now ≡ C.column_count cost.now }
+    requires rows { rows.now ≡ kept_from 0 left.now }
+    requires columns { columns.now ≡ kept_from 0 right.now }
+    requires totals { sum left.now ≡ sum right.now }
+    requires scale { sum left.now < 2 ^ 126 }
+    ensures { IfOk result (λ es. IsShownSolved (C.table cost.now) left.now right.now es.items) }
+{
+    let some_rows = SomeRows { cost, rows };
+    let part = SomeColumns {
+        cost: &some_rows,
+        columns,
+    };
+    let placed = place_kept(alloc, &part, left, right, rows, columns)?;
+    let entries = whole_entries(alloc, &placed.entries, rows, columns)?;
+    Ok(entries)
+}
+
+/// Places all weight at least cost. No potentials are spread.
+pub fn solve_entries<C: Cost>(
+    alloc: Global,
+    cost: &C,
+    left: &[u128],
+    right: &[u128],
+) -> Result<Vec<Entry>, AllocError>
+    requires rows { length left.now ≡ C.row_count cost.now }
+    requires columns { length right.now ≡ C.column_count cost.now }
+    requires totals { sum left.now ≡ sum right.now }
+    requires scale { sum left.now < 2 ^ 126 }
+    ensures { IfOk result (λ es. IsShownSolved (C.table cost.now) left.now right.now es.items) }
+{
+    let rows = places_of(alloc, left)?;
+    let columns = places_of(alloc, right)?;
+    entries_kept(alloc, cost, left, right, &rows, &columns)
 }
 
 /// What an entry costs.

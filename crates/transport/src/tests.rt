@@ -94,6 +94,10 @@ fn least_cells(rt: HostRuntime) -> Result<(), Fail> {
         Ok(least) => assert_eq!(rt; least, 5),
         Err(_) => assert!(rt; false),
     }
+    match couple_cells(rt.alloc(), &[2, 1], &[1, 2], &apart) {
+        Ok(cells) => assert_eq!(rt; cells.as_slice().len(), 3),
+        Err(_) => assert!(rt; false),
+    }
     Ok(())
 }
 

@@ -1,6 +1,7 @@
 // What the program does with words and files.
 ghost use Rattle.std.specs.Prelude.{◌≢◌};
 
+mod bounds;
 mod charts;
 mod checking;
 mod costs;
@@ -8,6 +9,7 @@ mod faults;
 mod listing;
 mod refusals;
 mod solving;
+mod trials;
 mod usage;
 
 use platform_cli::{Status, run};

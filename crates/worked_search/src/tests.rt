@@ -1,3 +1,6 @@
+mod ascent;
+mod meetings;
+mod plans;
 mod search;
 
 use pair_prices::Case;

@@ -7,7 +7,7 @@ use std::test::Fail;
 use worked_stations::{R1, S_PATHS, s};
 
 /// What `solve` prints for S.
-const S_REPORT: &str = "Optimal\ncost 1000\nR1 1 w1 e1 10 15\n";
+const S_REPORT: &str = "Optimal\ncost 1000\nroot 1000/1 exact\nR1 1 w1 e1 10 15\n";
 
 /// A plan of S.
 const PLAN: &str = "tpp-plan 1 1\nchoice 0 0\nend\n";

@@ -1,6 +1,6 @@
-// `patterns` and `make`.
-use super::{assert_begins, assert_run, run_quietly, shelf_of, words};
-use shelf::{QuietShelf, QuietSink};
+// `patterns`.
+use super::{assert_run, run_quietly, shelf_of, words};
+use shelf::QuietSink;
 use std::test::Fail;
 use worked_stations::{R1, S_PATHS, WIDE_TRAIN, s, wide_paths};
 
@@ -27,24 +27,5 @@ fn lists_as_many_patterns_as_there_may_be(rt: HostRuntime) -> Result<(), Fail> {
             .starts_with(b"R1 0 1 w0 e0 93 200 70\nR1 1 1 w0 e0 94 200 60\n")
     );
     assert!(rt; sink.bytes().ends_with(b"\nR1 4095 1 w15 e15 108 200 80\n"));
-    Ok(())
-}
-
-#[test]
-fn makes_a_station_that_can_be_solved(rt: HostRuntime) -> Result<(), Fail> {
-    let alloc = rt.alloc();
-    let mut sink = QuietSink::new(alloc);
-    let mut shelf = QuietShelf::new(alloc);
-    let make = words(alloc, "make 7 1")?;
-    assert_eq!(rt; run_quietly(alloc, &make, &mut shelf, &mut sink).code, 0);
-    shelf.insert("s", sink.bytes())?;
-    assert_begins(
-        &rt,
-        alloc,
-        "solve s",
-        &mut shelf,
-        0,
-        "Optimal\ncost 1000\nT0 ",
-    )?;
     Ok(())
 }

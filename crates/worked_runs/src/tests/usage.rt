@@ -6,10 +6,12 @@ const USAGE: &str = "Usage\n\
     solve INSTANCE [--splits N] [--plan FILE] [--proof FILE]\n\
     check INSTANCE PROOF [PLAN]\n\
     cost INSTANCE PLAN\n\
+    bound INSTANCE\n\
     patterns INSTANCE\n\
     platforms INSTANCE PLAN FROM TO\n\
     paths INSTANCE PLAN FROM TO\n\
-    make NUMBER TRAINS\n";
+    make NUMBER TRAINS\n\
+    trial NUMBER TRAINS\n";
 
 #[test]
 fn words_that_are_no_command_are_usage(rt: HostRuntime) -> Result<(), Fail> {

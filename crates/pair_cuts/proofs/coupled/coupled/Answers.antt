@@ -1,6 +1,6 @@
 use Rattle.std.proofs.Common.{◌∙◌, ℤ, List, ap, subst, sym}
 use Rattle.patterns.specs.Weights.{choice_weights}
-use Rattle.pair_cuts.specs.Coupled.{IsShownLeast}
+use Rattle.transport.specs.Coupling.{IsShownLeast}
 use Rattle.pair_cuts.specs.Table.{AreChoiceWeights, AreThere, cost_at}
 use Rattle.pair_cuts.proofs.Least.{choice_weights_are}
 use Rattle.pair_cuts.proofs.Tabled.{least_table_is}

@@ -1,7 +1,7 @@
-use Rattle.std.proofs.Common.{inl, inr, map, ap, arith, Err, string_bytes}
+use Rattle.std.proofs.Common.{rules, inl, inr, map, ap, arith, Err, string_bytes}
 use Rattle.command_words.specs.Command.{command_of}
 use Rattle.platform_cli.specs.View.{file_of, outcome_of}
-use Rattle.platform_cli.proofs.Ends.{cut_off, write_stop, from_before}
+use Rattle.platform_cli.proofs.Ends.{cut_off, read_stop, stopped_at, write_stop, from_before}
 use Rattle.platform_cli.proofs.PlanFiles.{named_written}
 use Rattle.platform_cli.proofs.top.carry_out.Goals as goal
 
@@ -30,3 +30,11 @@ returns-in-Ok-clause-write_fault g c = λ seven.
       )
       | inr rose ↦ inr rose
     ]
+
+pub returns-clause-ended : goal.returns-clause-ended
+returns-clause-ended g c = record {
+  way = inr (inr (stopped_at c.in-Err.stop c.status_of-in-Err.result.code c.status_of-in-Err.ensures.code, record { held = c.work.ensures.held; put = search rules }));
+}
+
+pub returns-clause-read_fault : goal.returns-clause-read_fault
+returns-clause-read_fault g c = λ six. c.in-Err.ensures.cause (ap (λ s. Err s) (read_stop c.in-Err.stop c.status_of-in-Err.result.code c.status_of-in-Err.ensures.code six))

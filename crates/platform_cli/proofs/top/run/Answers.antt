@@ -1,7 +1,7 @@
 use Rattle.std.proofs.Common.{map, string_bytes}
 use Rattle.command_words.specs.Command.{command_of}
 use Rattle.command_words.proofs.Apart.{solve_apart}
-use Rattle.platform_cli.proofs.Ends.{quiet_finished, optimal_given, no_plan_given, open_given, checked_given, made_given, listed_given, reported_given, refused_given, proof_refused_given, plan_refused_given, conflict_given, window_given, usage_given, bad_window_status, usage_status, nothing_given, done_of, front_given, kept_name, kept_plan, kept_proof, complete_given, solve_given, check_given, listing_given, report_given}
+use Rattle.platform_cli.proofs.Ends.{quiet_finished, optimal_given, no_plan_given, open_given, checked_given, made_given, tried_given, bounded_given, listed_given, reported_given, refused_given, proof_refused_given, plan_refused_given, conflict_given, window_given, usage_given, bad_window_status, usage_status, nothing_given, done_of, front_given, kept_name, kept_plan, kept_proof, complete_given, solve_given, trial_given, check_given, bounding_given, listing_given, report_given}
 use Rattle.platform_cli.proofs.top.run.Goals as goal
 
 pub returns-clause-optimal : goal.returns-clause-optimal
@@ -18,6 +18,12 @@ returns-clause-checked g c = checked_given c.carry_out.ensures.ended
 
 pub returns-clause-made : goal.returns-clause-made
 returns-clause-made g c = made_given c.carry_out.ensures.ended
+
+pub returns-clause-tried : goal.returns-clause-tried
+returns-clause-tried g c = tried_given c.carry_out.ensures.ended
+
+pub returns-clause-bounded : goal.returns-clause-bounded
+returns-clause-bounded g c = bounded_given c.carry_out.ensures.ended
 
 pub returns-clause-listed : goal.returns-clause-listed
 returns-clause-listed g c = listed_given c.carry_out.ensures.ended
@@ -75,8 +81,16 @@ pub returns-clause-solve_exact : goal.returns-clause-solve_exact
 returns-clause-solve_exact g c = λ search whole asked holds quiet memory. solve_given c.carry_out.ensures.ended search whole asked holds
     (quiet_finished g.S.Shelf.tells (g.S.Shelf.held c.args.shelf.now) (command_of (map string_bytes c.args.words.now)) c.carry_out.result.code _ _ _ _ _ _ c.carry_out.ensures.read_fault c.carry_out.ensures.write_fault quiet memory)
 
+pub returns-clause-trial_exact : goal.returns-clause-trial_exact
+returns-clause-trial_exact g c = λ numbers asked quiet memory. trial_given c.carry_out.ensures.ended numbers asked
+    (quiet_finished g.S.Shelf.tells (g.S.Shelf.held c.args.shelf.now) (command_of (map string_bytes c.args.words.now)) c.carry_out.result.code _ _ _ _ _ _ c.carry_out.ensures.read_fault c.carry_out.ensures.write_fault quiet memory)
+
 pub returns-clause-check_exact : goal.returns-clause-check_exact
 returns-clause-check_exact g c = λ files whole asked holds quiet memory. check_given c.carry_out.ensures.ended files whole asked holds
+    (quiet_finished g.S.Shelf.tells (g.S.Shelf.held c.args.shelf.now) (command_of (map string_bytes c.args.words.now)) c.carry_out.result.code _ _ _ _ _ _ c.carry_out.ensures.read_fault c.carry_out.ensures.write_fault quiet memory)
+
+pub returns-clause-bound_exact : goal.returns-clause-bound_exact
+returns-clause-bound_exact g c = λ instance whole words holds quiet memory. bounding_given c.carry_out.ensures.ended instance whole words holds
     (quiet_finished g.S.Shelf.tells (g.S.Shelf.held c.args.shelf.now) (command_of (map string_bytes c.args.words.now)) c.carry_out.result.code _ _ _ _ _ _ c.carry_out.ensures.read_fault c.carry_out.ensures.write_fault quiet memory)
 
 pub returns-clause-patterns_exact : goal.returns-clause-patterns_exact

@@ -1,11 +1,12 @@
-use Rattle.std.proofs.Common.{Some, sym, ◌∙◌, ap}
+use Rattle.std.proofs.Common.{Some, IfOk, sym, ◌∙◌, ap, subst}
 use Rattle.command_words.specs.declared.command.Command.{Command}
-use Rattle.command_words.specs.View.{view_of}
+use Rattle.command_words.specs.View.{generated_view, view_of}
 use Rattle.platform_cli.specs.declared.asked.Report.TheVariants.{Platforms, Paths}
 use Rattle.platform_cli.specs.declared.asked.Window.{Window}
 use Rattle.platform_cli.specs.Asked.{AskedView, requested}
-use Rattle.platform_cli.specs.Outcome.{made}
-use Rattle.platform_cli.specs.View.{chart_asked}
+use Rattle.platform_cli.specs.Outcome.{IsOutcome, made}
+use Rattle.platform_cli.specs.View.{chart_asked, outcome_of}
+use Rattle.platform_cli.proofs.TrialSteps.{trial_told}
 use Rattle.platform_cli.proofs.work.command_output.Goals as goal
 
 pub returns-in-Cost-clause-cause : goal.returns-in-Cost-clause-cause
@@ -30,8 +31,13 @@ pub returns-in_ok-made_output-in-Make-clause-outcome : goal.returns-in_ok-made_o
 returns-in_ok-made_output-in-Make-clause-outcome g c = (
   made,
   record {
-    words = record { number = c.in-Make.words.number; trains = c.in-Make.words.trains };
+    words = generated_view c.in-Make.words;
     asked = ap (λ (command : Command). Some (view_of command)) c.in-Make.is;
     is = c.in_ok-made_output-in-Make.ensures;
   },
 )
+
+pub returns-in-Trial-clause-outcome : goal.returns-in-Trial-clause-outcome
+returns-in-Trial-clause-outcome g c =
+    subst (λ (command : Command). IfOk c.trial_output.result (λ output. IsOutcome g.S.Shelf.tells (g.S.Shelf.held c.args.shelf.now) (Some (view_of command)) (outcome_of output))) (sym c.in-Trial.is)
+    (trial_told g.S.Shelf.tells (g.S.Shelf.held c.args.shelf.now) (generated_view c.in-Trial.words) c.trial_output.result c.trial_output.ensures.outcome)

@@ -1,0 +1,16 @@
+pub mod Entries
+pub mod Orders
+pub mod Cells
+pub mod Shares
+pub mod Steps
+pub mod Cliques
+pub mod CutRows
+pub mod Telling
+pub mod Arrivals
+pub mod Pricing
+pub mod Payments
+pub mod Quotients
+pub mod Standing
+pub mod RowSums
+pub mod Divisors
+pub mod LeafLists

@@ -1,0 +1,10 @@
+pub mod Faults
+pub mod Sums
+pub mod Orders
+pub mod Kinds
+pub mod Latest
+pub mod Account
+pub mod Shares
+pub mod Priced
+pub mod Divided
+pub mod Made

@@ -1,0 +1,9 @@
+pub mod OpenSums
+pub mod RowsHold
+pub mod WeakDuality
+pub mod FreePairs
+pub mod AllHold
+pub mod PairsLooked
+pub mod SameValue
+pub mod ExactBounds
+pub mod EngineEnds

@@ -1,0 +1,4 @@
+pub mod Bounds
+pub mod Source
+pub mod Looks
+pub mod Exact

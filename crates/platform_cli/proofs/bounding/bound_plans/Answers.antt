@@ -1,0 +1,16 @@
+use Rattle.std.proofs.Common.{Some, refl, ap}
+use Rattle.command_words.specs.Command.{bound_all}
+use Rattle.station_reader.specs.Shown.{record_of}
+use Rattle.platform_cli.specs.View.{outcome_of, reading_of}
+use Rattle.platform_cli.proofs.Answering.{bounded_answer, unread_answer}
+use Rattle.platform_cli.proofs.bounding.bound_plans.Goals as goal
+
+pub returns-in_ok-bounded_output-in-Taken-clause-outcome : goal.returns-in_ok-bounded_output-in-Taken-clause-outcome
+returns-in_ok-bounded_output-in-Taken-clause-outcome g c =
+    bounded_answer g.S.Shelf.tells (g.S.Shelf.held c.args.shelf.now) c.args.instance.now (reading_of c.in_ok-station.field-0) (record_of c.in-Taken.station) (outcome_of c.in_ok-bounded_output-in-Taken.field-0)
+    c.in_ok-station.ensures.read (ap reading_of c.in-Taken.is) c.in_ok-bounded_output-in-Taken.ensures
+
+pub returns-in_ok-refused_output-in-Refused-clause-outcome : goal.returns-in_ok-refused_output-in-Refused-clause-outcome
+returns-in_ok-refused_output-in-Refused-clause-outcome g c =
+    unread_answer g.S.Shelf.tells (g.S.Shelf.held c.args.shelf.now) (Some (bound_all c.args.instance.now)) c.args.instance.now (reading_of c.in_ok-station.field-0) c.in-Refused.refused.kind c.in-Refused.refused.place
+    (outcome_of c.in_ok-refused_output-in-Refused.field-0) refl c.in_ok-station.ensures.read (ap reading_of c.in-Refused.is) c.in_ok-refused_output-in-Refused.ensures
