@@ -18,10 +18,8 @@ pub(crate) struct Choice {
     count: usize,
 }
 
-/// Where a part is split. A train is taken whose split raises the bound of one side most, and of such trains one with most
-/// numbers. What is chosen decides how long a search takes, and nothing else.
-///
-/// It looks twice at each number.
+/// The most promising cut of a part: of a train whose split raises the bound of one side most, and of such trains one with most
+/// numbers. It looks twice at each number.
 pub(crate) fn choose_cut(case: &Case, allowed: &Allowed) -> Cut
     requires fits { FitsBook allowed.now.lists case.now.book }
     requires undecided { IsUndecided allowed.now.lists }
@@ -46,7 +44,8 @@ fn first_long(allowed: &Allowed) -> usize
     }
 }
 
-fn preferred(best: Choice, other: Option<Choice>) -> Choice
+/// The better of two cuts.
+pub(crate) fn preferred(best: Choice, other: Option<Choice>) -> Choice
     ensures { (lists : Lists) → IsCut lists best.cut → IsCutIfAny lists other → IsCut lists result.cut }
 {
     match other {
@@ -63,7 +62,8 @@ fn is_preferred(other: &Choice, best: &Choice) -> bool {
     other.gain > best.gain || (other.gain == best.gain && other.count > best.count)
 }
 
-fn cut_if_long(case: &Case, allowed: &Allowed, train: usize) -> Option<Choice>
+/// The cut of a train that has two numbers or more.
+pub(crate) fn cut_if_long(case: &Case, allowed: &Allowed, train: usize) -> Option<Choice>
     requires fits { FitsBook allowed.now.lists case.now.book }
     requires train { train < length allowed.now.lists }
     ensures { IsCutIfAny allowed.now.lists result }

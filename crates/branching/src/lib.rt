@@ -14,6 +14,7 @@ mod leaf;
 mod node;
 mod outline;
 mod part;
+mod probing;
 mod root_line;
 mod search;
 mod solving;

@@ -13,12 +13,12 @@ ghost use Rattle.patterns.specs.Allowed.{full_lists, FitsBook, Lists};
 ghost use Rattle.std.specs.Prelude.{◌≡◌, ◌≤◌, length, pos, slice_index, All, Contains, IfOk, IfSome};
 
 use crate::aid::{Aid, part_leaves};
-use crate::choice::choose_cut;
 use crate::found::{Priced, Root};
 use crate::kind::{Kind, kind_of};
 use crate::known::priced;
 use crate::leaf::{best_leaf, valued};
 use crate::part::Part;
+use crate::probing::probed_cut;
 use crate::root_line::{RootLeaf, root_leaf};
 use leaf_bounds::{Bound, Cut, Leaf, fixed_leaf, missing_leaf, narrow_leaf, plain_leaf};
 use master_lp::Limits;
@@ -151,7 +151,7 @@ pub(crate) fn split_part(
     requires stands { LeafStands case.now part.now.allowed.lists part.now.leaf }
     ensures { IfOk result (AreChildren case.now part.now) }
 {
-    let cut = choose_cut(case, &part.allowed);
+    let cut = probed_cut(alloc, case, aid, part)?;
     // Both sides have a number, so only memory may be missing.
     let Ok(sides) = part.allowed.split(alloc, cut.train as usize, cut.at) else {
         return Err(AllocError);
