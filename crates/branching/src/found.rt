@@ -38,7 +38,7 @@ pub struct Stopped {
     pub root: Root,
 }
 
-/// What was known of all plans before any split: `docs/RULES.md`, "Fractional plans".
+/// What was known of all plans before any split: `docs/PROOFS.md`, "Fractional plans".
 #[derive(Clone, Copy, PartialEq, Eq, Debug)]
 pub struct Root {
     /// The value of a leaf for all patterns of all trains, over its scale, in price units.

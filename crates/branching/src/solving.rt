@@ -19,7 +19,7 @@ use std::alloc::{AllocError, Global};
 
 /// Looks for a plan of least cost. It begins with the greedy plan, made better, and with the bound of a linear program for all plans
 /// under the limits. Then it splits a part of least bound, at most `splits` times, while that bound is below the cost of the best
-/// known plan or none is known: `docs/RULES.md`, "Trees" and "Fractional plans".
+/// known plan or none is known: `docs/PROOFS.md`, "Trees" and "Fractional plans".
 ///
 /// # Errors
 /// `AllocError` where the search finds no memory.

@@ -1,5 +1,5 @@
 //! Rows for platforms in a fractional plan: the first minute of a platform at which the weights of the patterns that hold it
-//! are more than its use. `docs/RULES.md`, "Fractional plans".
+//! are more than its use. `docs/PROOFS.md`, "Fractional plans".
 #![tactic(auto)]
 
 mod cut;

@@ -30,7 +30,7 @@ use std::alloc::{AllocError, Global};
 const MOST_SCALE: i128 = 1_000_000_000_000_000_000;
 
 /// The leaf of exact duals over the rows of a node's bound, under which no column has a negative reduced price. It stands for the node's
-/// lists, and its value over its scale is what the duals cost: `docs/RULES.md`, "Leaves" and "Fractional plans". Scale and numbers are
+/// lists, and its value over its scale is what the duals cost: `docs/PROOFS.md`, "Leaves" and "Fractional plans". Scale and numbers are
 /// divided by a common divisor, so that they are small.
 ///
 /// A train's number is the value of its opening row, and the numbers of a pair are those of the cuts on it times the values of their rows.

@@ -1,5 +1,5 @@
 //! Exact duals of the bound of a node as a leaf, which stands for the node's lists and has the very value of the duals:
-//! `docs/ALGORITHM.md` and `docs/RULES.md`, "Leaves".
+//! `docs/ALGORITHM.md` and `docs/PROOFS.md`, "Leaves".
 #![tactic(auto)]
 
 mod account;

@@ -12,7 +12,7 @@ use crate::value::leaf_value;
 use pair_prices::Case;
 use patterns::Allowed;
 
-/// What the leaf says of the plans of these lists, where it stands for them: `docs/RULES.md`, "Leaves". Its value, whether it
+/// What the leaf says of the plans of these lists, where it stands for them: `docs/PROOFS.md`, "Leaves". Its value, whether it
 /// is empty, and its value over its scale rounded up.
 ///
 /// # Errors

@@ -1,5 +1,5 @@
 //! The bound of a node of the search: a leaf that stands for the node's lists, and where it is exact a fractional plan of its value.
-//! `docs/ALGORITHM.md`, and `docs/RULES.md`, "Fractional plans" and "Leaves".
+//! `docs/ALGORITHM.md`, and `docs/PROOFS.md`, "Fractional plans" and "Leaves".
 #![tactic(auto)]
 
 mod answer;

@@ -30,7 +30,7 @@ const STEPS: u32 = 1_500;
 
 const SEEDED_STEPS: u32 = 300;
 
-/// The bound of the node of these lists: `docs/RULES.md`, "Fractional plans". `Exact` has the least cost of a fractional plan over
+/// The bound of the node of these lists: `docs/PROOFS.md`, "Fractional plans". `Exact` has the least cost of a fractional plan over
 /// the lists. `Weak` has a leaf's value, at least the sum of the least prices, and says why no more is known.
 ///
 /// # Errors

@@ -1,7 +1,7 @@
 use station_reader::Sequence;
 
 /// A number for each choice of two trains, in price units, at most 10^15 in size. At two patterns the numbers are together
-/// at most the sealed price, and where a train is left out at most 0: `docs/RULES.md`, "Fractional plans".
+/// at most the sealed price, and where a train is left out at most 0: `docs/PROOFS.md`, "Fractional plans".
 #[derive(Drop)]
 pub struct PairCut {
     pub first: usize,

@@ -1,5 +1,5 @@
 //! Cuts on pairs of trains in a fractional plan: numbers that bound from below what the two trains' weights cost together, taken
-//! from a least coupling of them. `docs/RULES.md`, "Fractional plans".
+//! from a least coupling of them. `docs/PROOFS.md`, "Fractional plans".
 #![tactic(auto)]
 
 mod capped;

@@ -77,7 +77,7 @@ impl Case {
         &self.book
     }
 
-    /// TOP, a number above the cost of every feasible plan and below 10^13: `docs/RULES.md`, "TOP and sealed prices".
+    /// TOP, a number above the cost of every feasible plan and below 10^13: `docs/PROOFS.md`, "TOP and sealed prices".
     pub fn top(&self) -> i64
         ensures value { result ≡ pos (top_of self.now) }
         ensures limit { top_of self.now < 10_000_000_000_000 }

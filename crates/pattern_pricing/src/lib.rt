@@ -1,5 +1,5 @@
 //! The columns of the bound of a node, numbered by a layout, and a source of them that prices them by need:
-//! `docs/RULES.md`, "Fractional plans".
+//! `docs/PROOFS.md`, "Fractional plans".
 #![tactic(auto)]
 
 mod arith;

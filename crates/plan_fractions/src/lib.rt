@@ -1,4 +1,4 @@
-//! Feasible plans as fractional plans: what the root value of a case says of its plans. `docs/RULES.md`, "Fractional plans".
+//! Feasible plans as fractional plans: what the root value of a case says of its plans. `docs/PROOFS.md`, "Fractional plans".
 #![tactic(auto)]
 
 mod laws;

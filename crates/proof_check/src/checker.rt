@@ -52,8 +52,8 @@ impl<'a> Checker<'a> {
     /// Checks the bytes up to the end of this piece.
     ///
     /// # Errors
-    /// `Refused` with the first record at which the bytes so far are no front of a proof that is accepted, or `Memory`. Each
-    /// later call answers it again.
+    /// `Refused` with the first record that breaks a rule of proofs, or that stands behind the last, or with `Long` where 2^63
+    /// bytes were fed, or `Memory`. Each later call answers it again.
     pub fn feed(&mut self, piece: &[u8]) -> Result<(), CheckFault>
         ensures case { case_in self.new ≡ case_in self.old }
 

@@ -12,7 +12,7 @@ pub struct PairTable {
 }
 
 /// A fractional plan: weights and uses over one scale, and a table for each two trains, the first below the second:
-/// `docs/RULES.md`, "Fractional plans".
+/// `docs/PROOFS.md`, "Fractional plans".
 #[derive(Drop)]
 pub struct FractionPlan {
     pub weights: Weights,

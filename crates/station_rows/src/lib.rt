@@ -1,5 +1,5 @@
 //! The rows of the bound of a node of the search, over the columns of a layout, and what points at which they hold say of
-//! fractional plans: `docs/RULES.md`, "Fractional plans".
+//! fractional plans: `docs/PROOFS.md`, "Fractional plans".
 #![tactic(auto)]
 
 mod cells;
