@@ -1,5 +1,5 @@
-//! Cases: what two patterns cost together or why they are forbidden, and a number above every plan's cost. What a plan, its
-//! cost is defined here, `docs/RULES.md`, and what a fractional plan is, `docs/PROOFS.md`.
+//! Cases: what two patterns cost together or why they are forbidden, and a number above every plan's cost. What a plan and
+//! its cost are is defined here (`docs/RULES.md`), and what a fractional plan is (`docs/PROOFS.md`).
 #![tactic(auto)]
 
 mod case;
