@@ -1,4 +1,4 @@
-//! Columns of a linear program, and stations that a number makes.
+//! Columns of a linear program.
 #![tactic(auto)]
 
 #[cfg(test)]

@@ -1,5 +1,4 @@
 mod columns;
-mod generated;
 
 use pair_prices::Case;
 use station_reader::read_station;

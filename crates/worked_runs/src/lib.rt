@@ -1,9 +1,6 @@
-//! What the program does with words and files, on stations that can be worked through by hand.
+//! What the program does where a file or the output fails, and what a search answers where its linear program may not go far. All else
+//! of the program is shown by the stored runs in `runs/`.
 #![tactic(auto)]
-
-mod buffered;
-
-pub use buffered::buffered_station;
 
 #[cfg(test)]
 mod tests;

@@ -49,48 +49,6 @@ pub fn r2(arrive: u32, depart: u32, shift: u32) -> Train {
     }
 }
 
-/// A train that may arrive in 16 minutes.
-pub const WIDE_TRAIN: Train = Train {
-    arrive: 100,
-    depart: 200,
-    arrival: (7, 8),
-    ..ON_THE_REGULAR_PLATFORM
-};
-
-/// 16 paths in and 16 paths out, at platform `1`.
-pub fn wide_paths(alloc: Global) -> Result<String, AllocError> {
-    let mut paths = String::new(alloc);
-    for number in 0..16 {
-        push_entry(&mut paths, &numbered_path(alloc, "w", number, "W", "in")?)?;
-        push_entry(&mut paths, &numbered_path(alloc, "e", number, "E", "out")?)?;
-    }
-    Ok(paths)
-}
-
-fn numbered_path(
-    alloc: Global,
-    name: &str,
-    number: u32,
-    direction: &str,
-    way: &str,
-) -> Result<String, AllocError> {
-    format!(in alloc;
-        r#"{{"name":"{name}{number}","direction":"{direction}","platform":"1","way":"{way}","minutes":2,"price":0}}"#
-    )
-}
-
-/// Of version 2: one platform, and R1 of S, which begins here.
-pub const BEGINS_HERE: &str =
-    r#"{"format":"tpp-station","version":2,"threshold":2,"conflict_price":5,"buffer_price":1,
-"directions":["W","E"],
-"platforms":[{"name":"1","dummy":false,"price":1000,"headway":2,"buffer":3}],
-"paths":[{"name":"w1","direction":"W","platform":"1","way":"in","minutes":2,"price":0},
-{"name":"e1","direction":"E","platform":"1","way":"out","minutes":2,"price":0}],
-"incompatible":[],
-"trains":[{"name":"R1","from":null,"to":"E","arrive":10,"depart":15,"dwell":1,
-"arrive_early":0,"arrive_late":0,"depart_early":0,"depart_late":0,
-"platforms":["1"],"prefer":["1"],"off_price":100,"shift_price":10,"surcharges":[]}]}"#;
-
 /// S with these paths and trains: a platform `1` of price 1,000, and a dummy platform `D` of price 100,000.
 pub fn s(alloc: Global, paths: &str, trains: &[Train]) -> Result<String, AllocError> {
     let mut entries = String::new(alloc);

@@ -7,10 +7,10 @@ use master_lp::{Limits, RelaxHints, Relaxed, WeakCause, relax, relax_with};
 use pair_classes::Meetings;
 use pair_prices::Case;
 use patterns::Allowed;
-use ratio::{Ratio, Width};
+use ratio::Width;
 use std::alloc::{AllocError, Global};
 use std::test::Fail;
-use worked_stations::{F, K, Plain, plain_station};
+use worked_stations::{F, plain_station};
 
 fn limits(pivots: u32) -> Limits {
     Limits {
@@ -18,27 +18,6 @@ fn limits(pivots: u32) -> Limits {
         rounds: 2_000,
         cells: 16_777_216,
     }
-}
-
-/// The value of an exact bound of all plans.
-fn exact_value(alloc: Global, station: &Plain) -> Result<Option<Ratio>, Fail> {
-    let case = case_of(alloc, &plain_station(alloc, station)?)?;
-    let allowed = Allowed::all(alloc, case.book())?;
-    let mut width = Width::new();
-    match relax(alloc, &case, &allowed, &limits(20_000), &mut width)? {
-        Relaxed::Exact(bound) => Ok(Some(bound.value)),
-        Relaxed::Weak(_) => Ok(None),
-    }
-}
-
-// Each fractional plan of K leaves one of the three trains out, which costs TOP. In F, half of each train on each letter costs
-// nothing.
-#[test]
-fn bounds_are_exact(rt: HostRuntime) -> Result<(), Fail> {
-    let alloc = rt.alloc();
-    assert_eq!(rt; exact_value(alloc, &K)?, Some(Ratio::new(121, 1)));
-    assert_eq!(rt; exact_value(alloc, &F)?, Some(Ratio::new(0, 1)));
-    Ok(())
 }
 
 /// Why a bound is weak where no pivot may be made.

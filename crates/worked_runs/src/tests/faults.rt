@@ -54,7 +54,7 @@ fn each_call_fails_in_turn(rt: HostRuntime) -> Result<(), Fail> {
     const NONE: u64 = 99;
     let alloc = rt.alloc();
     // The shelf's failing call, the sink's, the status, what the plan's and the proof's file hold, and the output.
-    let rows: [(u64, u64, u8, Kept, Kept, &str); 8] = [
+    let rows: [(u64, u64, u8, Kept, Kept, &str); 9] = [
         (NONE, NONE, 0, Kept::Whole, Kept::Whole, S_REPORT),
         (0, NONE, 6, Kept::NoFile, Kept::NoFile, ""),
         (1, NONE, 6, Kept::NoFile, Kept::NoFile, ""),
@@ -63,6 +63,14 @@ fn each_call_fails_in_turn(rt: HostRuntime) -> Result<(), Fail> {
         (NONE, 0, 7, Kept::Whole, Kept::Whole, ""),
         (NONE, 1, 7, Kept::Whole, Kept::Whole, "Optimal\n"),
         (NONE, 2, 7, Kept::Whole, Kept::Whole, "Optimal\ncost 1000\n"),
+        (
+            NONE,
+            3,
+            7,
+            Kept::Whole,
+            Kept::Whole,
+            "Optimal\ncost 1000\nroot 1000/1 exact\n",
+        ),
     ];
     let words = words(alloc, "solve s --plan p --proof q")?;
     let proof = proof_of_s(alloc)?;
@@ -80,17 +88,6 @@ fn each_call_fails_in_turn(rt: HostRuntime) -> Result<(), Fail> {
 }
 
 #[test]
-fn a_plan_that_is_missing_is_a_read_fault(rt: HostRuntime) -> Result<(), Fail> {
-    let alloc = rt.alloc();
-    let mut shelf = memory_shelf(alloc)?;
-    let mut sink = MemorySink::new(alloc);
-    let words = words(alloc, "cost s p")?;
-    assert_eq!(rt; run(alloc, &words, &mut shelf, &mut sink).code, 6);
-    assert_eq!(rt; sink.bytes(), b"".as_slice());
-    Ok(())
-}
-
-#[test]
 fn reads_of_one_byte_change_nothing(rt: HostRuntime) -> Result<(), Fail> {
     let alloc = rt.alloc();
     let mut shelf = memory_shelf(alloc)?;
@@ -102,5 +99,23 @@ fn reads_of_one_byte_change_nothing(rt: HostRuntime) -> Result<(), Fail> {
     let proof = proof_of_s(alloc)?;
     assert!(rt; is_kept(&shelf, "p", PLAN.as_bytes(), Kept::Whole));
     assert!(rt; is_kept(&shelf, "q", proof.as_slice(), Kept::Whole));
+    Ok(())
+}
+
+fn empty_lines(alloc: Global, count: usize) -> Result<Vec<u8>, AllocError> {
+    vec![in alloc; b'\n'; count]
+}
+
+// Two calls read the station, and a third the first piece of the proof, whose first record is refused. The fourth would fail.
+#[test]
+fn reads_a_refused_proof_no_further(rt: HostRuntime) -> Result<(), Fail> {
+    let alloc = rt.alloc();
+    let mut shelf = memory_shelf(alloc)?;
+    shelf.insert("q", &empty_lines(alloc, 65_537)?)?;
+    shelf.fail(3)?;
+    let mut sink = MemorySink::new(alloc);
+    let words = words(alloc, "check s q")?;
+    assert_eq!(rt; run(alloc, &words, &mut shelf, &mut sink).code, 5);
+    assert_eq!(rt; sink.bytes(), b"Proof refused 1 Shape at 1\n".as_slice());
     Ok(())
 }

@@ -6,7 +6,7 @@ use plan_cost::Plan;
 use primal_heuristic::{greedy, improve, plan_in};
 use std::alloc::{AllocError, Global};
 use std::test::Fail;
-use worked_stations::{R1, S_PATHS, r2, s};
+use worked_stations::{F, R1, S_PATHS, plain_station, r2, s};
 
 fn numbers(plan: &Plan) -> (u16, u16) {
     let numbers = plan.choice.as_slice();
@@ -49,5 +49,17 @@ fn finds_a_plan_in_lists(rt: HostRuntime) -> Result<(), Fail> {
         Some(found) => assert!(rt; numbers(&found) == (1, 1)),
         None => Err("no plan found")?,
     }
+    Ok(())
+}
+
+// The second train of F keeps to the other letter. The third clashes with one of them on either, and takes the first.
+#[test]
+fn takes_the_first_of_equals(rt: HostRuntime) -> Result<(), Fail> {
+    let alloc = rt.alloc();
+    let case = case_of(alloc, &plain_station(alloc, &F)?)?;
+    let Some(plan) = greedy(alloc, &case)? else {
+        return Err(Fail::from("no plan"));
+    };
+    assert_eq!(rt; plan.choice.as_slice(), [0, 1, 0].as_slice());
     Ok(())
 }
