@@ -70,11 +70,12 @@ refuse() {
     [ ! -e plan ] || cp plan usual.plan
     [ ! -e proof ] || cp proof usual.proof
     for how in alone all; do
+        unset REFUSE_ALL
+        [ "$how" = alone ] || export REFUSE_ALL=1
         at=0
         while :; do
             at=$((at + 1))
             rm -f refused plan proof
-            if [ "$how" = all ]; then set -- "$@"; export REFUSE_ALL=1; else unset REFUSE_ALL; fi
             REFUSE_AT=$at REFUSE_SEEN=$work/refused LD_PRELOAD=$work/refuse.so "$TPP" "$@" >out 2>err
             status=$?
             [ -L refused ] || break
@@ -96,7 +97,6 @@ refuse() {
     done
 }
 
-unset REFUSE_ALL
 refuse 0 solve s --plan plan --proof proof
 refuse 10 solve none --plan plan --proof proof
 refuse 0 check s s.proof s.plan

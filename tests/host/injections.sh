@@ -3,6 +3,8 @@
 # one, each FILE is old or whole, and no file is left beside one. A call that a signal interrupts is made again.
 . "$(dirname -- "$0")/common.sh"
 
+ln -s far.plan plan
+
 # inject CALL ERROR STATUSES..: from the first call of this name on to the last one
 inject() {
     call=$1
@@ -16,7 +18,7 @@ inject() {
         strace -o trace -e "trace=$call" -e "inject=$call:error=$error:when=$at" "$TPP" solve s --plan plan --proof proof >out 2>err
         status=$?
         grep -q INJECTED trace || break
-        # the program was not yet loaded
+        # the program wasn't loaded yet; while it is loaded, some files may be missing
         [ "$status" != 127 ] || continue
         tried=$((tried + 1))
         case " $* " in *" $status "*) ;; *) broken "status $status: $call $error at $at" ;; esac
@@ -35,11 +37,11 @@ inject() {
 
 for error in EIO EACCES; do
     inject read $error 6
-    inject openat $error 6 7
+    inject openat $error 0 6 7
     inject statx $error 0 7
 done
-inject openat EMFILE 6 7
-inject openat ENOSPC 6 7
+inject openat EMFILE 0 6 7
+inject openat ENOSPC 0 6 7
 for error in EIO ENOSPC EBADF; do
     inject write $error 7
     inject fsync $error 7
@@ -51,12 +53,12 @@ for error in EIO ENOSPC EACCES EXDEV; do
     inject unlink $error 7
 done
 inject fchmod EPERM 7
-inject readlink EIO 0 7
+inject readlink EIO 7
 for call in read write openat fsync; do
     inject $call EINTR 0
 done
 inject close EINTR 0
 inject read ENOMEM 6
-inject openat ENOMEM 6 7 8
+inject openat ENOMEM 0 6 7 8
 inject statx ENOMEM 0 7 8
 done_with injections

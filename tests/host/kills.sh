@@ -16,13 +16,20 @@ judge() {
     rm -f .tpp-*
 }
 
+ready
+start=$(date +%s%N)
+"$TPP" solve s --plan plan --proof proof >out
+span=$(($(date +%s%N) - start))
+ended=0
 run=0
 while [ "$run" -lt 200 ]; do
     run=$((run + 1))
     ready
-    timeout -s KILL "0.0$(printf %03d $((run * 37 % 200)))" "$TPP" solve s --plan plan --proof proof >out 2>err
+    timeout -s KILL "0.$(printf %09d $((span / 200 * (run * 37 % 200 + 1))))" "$TPP" solve s --plan plan --proof proof >out 2>err
+    [ $? != 0 ] || ended=$((ended + 1))
     judge "run $run"
 done
+[ "$ended" -lt 150 ] || broken "$ended of 200 runs ended before the kill"
 
 # until a run ends by itself
 call=0

@@ -2,7 +2,7 @@
 # Limits: file sizes, memory, a full disk and a closed output. Each FILE is old or whole.
 . "$(dirname -- "$0")/common.sh"
 
-"$TPP" make 7 100 >big || exit 1
+"$TPP" make 7 30 >big || exit 1
 "$TPP" solve big --splits 0 --plan big.plan --proof big.proof >big.report
 usual=$?
 
@@ -37,12 +37,21 @@ done
 mkdir small
 if mount -t tmpfs -o size=16k none small 2>err; then
     trap 'umount small; rm -rf "$work"' EXIT
-    cp old.plan small/plan
-    cp old.proof small/proof
-    wants 7 "$TPP" solve big --splits 0 --plan small/plan --proof small/proof
-    is_old_or_whole small/plan old.plan big.plan 'a full disk'
-    is small/proof old.proof 'a full disk'
-    [ ! -e small/.tpp-0 ] || broken 'a file was left on the full disk'
+    for pages in 0 1 2; do
+        rm -f small/*
+        cp old.plan small/plan
+        cp old.proof small/proof
+        dd if=/dev/zero of=small/left bs=4096 count=$pages 2>err
+        dd if=/dev/zero of=small/filler bs=4096 2>err
+        rm -f small/left
+        tried=$((tried + 1))
+        "$TPP" solve big --splits 0 --plan small/plan --proof small/proof >out 2>err
+        status=$?
+        case $pages,$status in *,7 | [12],"$usual") ;; *) broken "status $status with $pages pages free" ;; esac
+        is_old_or_whole small/plan old.plan big.plan "$pages pages free"
+        is_old_or_whole small/proof old.proof big.proof "$pages pages free"
+        [ ! -e small/.tpp-0 ] || broken "a file was left with $pages pages free"
+    done
 else
     echo 'no file system may be mounted here: a full disk was not tried'
 fi

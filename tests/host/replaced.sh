@@ -3,7 +3,7 @@
 # Every read is slowed down by strace, so that the rename falls between two of them.
 . "$(dirname -- "$0")/common.sh"
 
-"$TPP" make 7 150 >first || exit 1
+"$TPP" make 7 200 >first || exit 1
 sed 's/"shift_price":10/"shift_price":99/g' first >second
 cmp -s first second && broken 'the stations are equal'
 "$TPP" patterns first >first.report || exit 1
@@ -15,7 +15,7 @@ while [ "$run" -lt 60 ]; do
     tried=$((tried + 1))
     cp first station
     cp second next
-    strace -f -o trace -e trace=read -e inject=read:delay_exit=4000 "$TPP" patterns station >out 2>err &
+    strace -f -o trace -e trace=read -e inject=read:delay_exit=20000 "$TPP" patterns station >out 2>err &
     pid=$!
     sleep "0.0$((run % 9 + 1))"
     mv next station

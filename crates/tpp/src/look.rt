@@ -7,8 +7,8 @@ use std::alloc::AllocError;
 const REPORT: &str = "/dev/stdout";
 
 /// What the files that a command writes are on the host.
-#[derive(Clone, Copy, Debug, PartialEq, Eq)]
-pub(crate) enum Look {
+#[derive(Clone, Copy)]
+pub(crate) enum Finding {
     /// Nothing stands against the work.
     Usable,
     /// One of them is the instance too, the other one, or the file that takes the report.
@@ -19,27 +19,35 @@ pub(crate) enum Look {
 
 /// Looks at the files that the command of these words writes. A command without such files is `Usable`, and so are words
 /// that are no command.
-pub(crate) fn look(rt: &HostRuntime, words: &[String]) -> Result<Look, AllocError> {
+pub(crate) fn look_at_files(rt: &HostRuntime, words: &[String]) -> Result<Finding, AllocError> {
     match read_words(rt.alloc(), words) {
-        Ok(Some(Command::Solve(solve))) => look_at(rt, solve.instance, solve.plan, solve.proof),
-        Ok(_) => Ok(Look::Usable),
+        Ok(Some(Command::Solve(solve))) => look_at_solve(
+            rt,
+            solve.instance,
+            solve.plan,
+            solve.proof,
+        ),
+        Ok(_) => Ok(Finding::Usable),
         Err(error) => Err(error),
     }
 }
 
-fn look_at(
+fn look_at_solve(
     rt: &HostRuntime,
     instance: &str,
     plan: Option<&str>,
     proof: Option<&str>,
-) -> Result<Look, AllocError> {
-    if is_taken(rt, plan, instance)? || is_taken(rt, proof, instance)? || are_one(rt, plan, proof)? {
-        return Ok(Look::OneFile);
+) -> Result<Finding, AllocError> {
+    if is_taken(rt, plan, instance)?
+        || is_taken(rt, proof, instance)?
+        || are_one(rt, plan, proof)?
+    {
+        return Ok(Finding::OneFile);
     }
     if can_write(rt, plan)? && can_write(rt, proof)? {
-        Ok(Look::Usable)
+        Ok(Finding::Usable)
     } else {
-        Ok(Look::Unwritable)
+        Ok(Finding::Unwritable)
     }
 }
 
@@ -51,11 +59,7 @@ fn is_taken(rt: &HostRuntime, file: Option<&str>, instance: &str) -> Result<bool
     }
 }
 
-fn are_one(
-    rt: &HostRuntime,
-    plan: Option<&str>,
-    proof: Option<&str>,
-) -> Result<bool, AllocError> {
+fn are_one(rt: &HostRuntime, plan: Option<&str>, proof: Option<&str>) -> Result<bool, AllocError> {
     match (plan, proof) {
         (Some(plan), Some(proof)) => is_file(rt, plan, proof),
         _ => Ok(false),

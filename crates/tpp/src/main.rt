@@ -3,7 +3,7 @@
 
 mod look;
 
-use look::{Look, look};
+use look::{Finding, look_at_files};
 use platform_cli::{Status, run};
 use shelf::{HostShelf, HostSink};
 use std::alloc::AllocError;
@@ -45,10 +45,10 @@ fn run_words(rt: &HostRuntime, words: &[String]) -> Status {
 
 // Names of one file are refused as equal names are: by the usage text.
 fn run_looked(rt: &HostRuntime, words: &[String]) -> Status {
-    match look(rt, words) {
-        Ok(Look::Usable) => run_words(rt, words),
-        Ok(Look::OneFile) => run_words(rt, &[]),
-        Ok(Look::Unwritable) => WRITE_FAULT,
+    match look_at_files(rt, words) {
+        Ok(Finding::Usable) => run_words(rt, words),
+        Ok(Finding::OneFile) => run_words(rt, &[]),
+        Ok(Finding::Unwritable) => WRITE_FAULT,
         Err(_) => MEMORY,
     }
 }
