@@ -13,8 +13,8 @@ inject() {
     at=0
     while :; do
         at=$((at + 1))
-        cp old.plan plan
-        cp old.proof proof
+        cat old.plan >plan
+        cat old.proof >proof
         strace -o trace -e "trace=$call" -e "inject=$call:error=$error:when=$at" "$TPP" solve s --plan plan --proof proof >out 2>err
         status=$?
         grep -q INJECTED trace || break

@@ -4,8 +4,8 @@
 
 # ready: both FILEs hold their old texts
 ready() {
-    cp old.plan plan
-    cp old.proof proof
+    cat old.plan >plan
+    cat old.proof >proof
 }
 
 # judge WORDS..
@@ -31,17 +31,21 @@ while [ "$run" -lt 200 ]; do
 done
 [ "$ended" -lt 150 ] || broken "$ended of 200 runs ended before the kill"
 
-# until a run ends by itself
-call=0
-while :; do
-    call=$((call + 1))
-    ready
-    strace -o trace -e trace=all -e inject=all:signal=KILL:when=$call "$TPP" solve s --plan plan --proof proof >out 2>err
-    status=$?
-    judge "killed at call $call"
-    [ "$status" != 0 ] || break
+# each system call by its name and its place, until a run ends by itself
+ready
+strace -o trace "$TPP" solve s --plan plan --proof proof >out 2>err || broken 'a run under strace'
+for call in $(sed -n 's/^\([a-z0-9_]*\)(.*/\1/p' trace | sort -u); do
+    at=0
+    while :; do
+        at=$((at + 1))
+        ready
+        strace -o killed -e "trace=$call" -e "inject=$call:signal=KILL:when=$at" "$TPP" solve s --plan plan --proof proof >out 2>err
+        status=$?
+        judge "$call $at"
+        [ "$status" != 0 ] || break
+    done
+    is plan s.plan "after the last $call"
+    is proof s.proof "after the last $call"
 done
-[ "$call" -gt 20 ] || broken 'the run has few calls'
-is plan s.plan
-is proof s.proof
+[ "$tried" -gt 250 ] || broken 'the run has few calls'
 done_with kills

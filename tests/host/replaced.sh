@@ -1,25 +1,43 @@
 #!/bin/sh
-# An input that is replaced by a rename while it is read: the answer is that of the old or of the new station, never of a blend.
-# Every read is slowed down by strace, so that the rename falls between two of them.
+# An input that is replaced by a rename while it is read, before each of its reads in turn: the answer is that of the old or of the new
+# station, never of a blend.
 . "$(dirname -- "$0")/common.sh"
 
-"$TPP" make 7 200 >first || exit 1
-sed 's/"shift_price":10/"shift_price":99/g' first >second
-cmp -s first second && broken 'the stations are equal'
-"$TPP" patterns first >first.report || exit 1
-"$TPP" patterns second >second.report || exit 1
+cat >replace.c <<'END'
+#define _GNU_SOURCE
+#include <stdio.h>
+#include <stdlib.h>
+#include <sys/syscall.h>
+#include <unistd.h>
 
-run=0
-while [ "$run" -lt 60 ]; do
-    run=$((run + 1))
-    tried=$((tried + 1))
-    cp first station
-    cp second next
-    strace -f -o trace -e trace=read -e inject=read:delay_exit=20000 "$TPP" patterns station >out 2>err &
-    pid=$!
-    sleep "0.0$((run % 9 + 1))"
-    mv next station
-    wait "$pid" || broken "status $?, run $run"
-    cmp -s out first.report || cmp -s out second.report || broken "a blend, run $run"
+/* REPLACE_AT: the read, from 1 on, before which `next` is renamed to `station`. */
+ssize_t read(int file, void *to, size_t most)
+{
+    static long seen;
+    const char *at = getenv("REPLACE_AT");
+    if (at && ++seen == atol(at))
+        rename("next", "station");
+    return syscall(SYS_read, file, to, most);
+}
+END
+cc -shared -fPIC -O1 -w -o replace.so replace.c || exit 1
+
+late=0
+for trains in 110 120 130 140 150 160 170 180 190 200; do
+    "$TPP" make 7 $trains >first || exit 1
+    sed 's/"shift_price":10/"shift_price":99/g' first >second
+    "$TPP" patterns first >first.report || exit 1
+    "$TPP" patterns second >second.report || exit 1
+    cmp -s first.report second.report && broken 'the stations are equal'
+    [ "$(wc -c <first)" -gt 65536 ] || broken "one read takes $trains trains"
+    for at in 1 2 3 4 5 6; do
+        tried=$((tried + 1))
+        cp first station
+        cp second next
+        REPLACE_AT=$at LD_PRELOAD=$work/replace.so "$TPP" patterns station >out 2>err || broken "status $?, read $at of $trains trains"
+        cmp -s out first.report || cmp -s out second.report || broken "a blend at read $at of $trains trains"
+        [ -e next ] || late=$((late + 1))
+    done
 done
+[ "$late" -ge 20 ] || broken "only $late inputs were replaced"
 done_with replaced
