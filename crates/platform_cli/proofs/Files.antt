@@ -101,7 +101,7 @@ pub is_named : (files : List NewFile) (i : ℕ) (file : NewFile) → i < length 
 is_named files i file le is =
     (i, omega (arith, length-map files (λ (f : NewFile). f.name)), get_or-map (λ (f : NewFile). f.name) files i file file.name le ∙ ap (λ (f : NewFile). f.name) (sym is))
 
-contained_name : (files : List NewFile) (file : NewFile) → Contains files file → IsNamed files file.name
+pub contained_name : (files : List NewFile) (file : NewFile) → Contains files file → IsNamed files file.name
 contained_name files file (k, le, is) = is_named files k file le (sym is)
 
 -- a name that holds what it held a moment ago
