@@ -123,8 +123,8 @@ module _ {tells : Bool} {command : Option CommandView} {status : ℕ} {old new :
   -- of two kinds one was given
   either_given : (P Q : Outcome → Type 0) → WasGiven (λ outcome. P outcome ⊎ Q outcome) tells old new before now → WasGiven P tells old new before now ⊎ WasGiven Q tells old new before now
   either_given P Q given = elim given.is [
-    | inl is ↦ inl (record { outcome = given.outcome; is = is; text = given.text; files = given.files; })
-    | inr is ↦ inr (record { outcome = given.outcome; is = is; text = given.text; files = given.files; })
+    | inl is ↦ inl (record { outcome = given.outcome; is = is; text = given.text; files = given.files })
+    | inr is ↦ inr (record { outcome = given.outcome; is = is; text = given.text; files = given.files })
   ]
 
   pub no_plan_given : status ≡ 10 → WasGiven (IsNoPlan tells old command) tells old new before now ⊎ WasGiven (IsTriedNoPlan command) tells old new before now

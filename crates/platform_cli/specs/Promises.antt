@@ -78,81 +78,61 @@ pub record KeepsPromises (run : RunRecord) : Type 0 where
   -- accepted with the cost as its bound. The root line is the value of a leaf for all plans, rounded up at most the cost, and
   -- where it says exact the root value of the station.
   pub optimal : (words : SolveView) → run.command ≡ Some (solve words) → run.status ≡ 0 → Gives run answers.optimal
-
   -- Status 10: it is `solve` or `trial`, of a station without a feasible plan. The report says so, and the proof's FILE has a proof
   -- that is accepted with no plan. The root line is as above.
   pub no_plan : run.status ≡ 10 → Gives run answers.no_plan ⊎ Gives run answers.tried_none
-
   -- Status 11: it is `solve` or `trial`, and the stated splits are spent, of `trial` 50: a tree that stands has just as many, at
   -- each of its splits the least prices sum to at most its bound, more splits could decide the station, and the bound is below the
   -- printed cost. The report names the best known plan, which costs at most what the greedy plan costs, or none where there is no
   -- greedy plan, and the tree's bound, which every feasible plan keeps to. The proof's FILE has that tree. The root line is as
   -- above, rounded up at most the bound, and it is below TOP and doesn't reach the greedy plan's cost.
   pub stopped : run.status ≡ 11 → Gives run answers.stopped ⊎ Gives run answers.tried_open
-
   -- Status 0 of `check`: whoever wrote the proof, every feasible plan keeps to the printed bound, and there is none where no
   -- plan is printed. A plan's cost is printed beside it, and `shown optimal` exactly where it is the bound.
   pub checked : (words : CheckView) → run.command ≡ Some (check words) → run.status ≡ 0 → Gives run answers.checked
-
   -- Status 0 of `bound`: what the shelf holds under INSTANCE is a station, and a root line of it is given: the value of a leaf for all
   -- plans, and the root value of the station unless it is weak, with what that says of the cost of plans.
   pub bounded : (instance : List ℕ) → run.command ≡ Some (bound_all instance) → run.status ≡ 0 → Gives run answers.bounded
-
   -- Status 0 of `patterns`: what the shelf holds under INSTANCE is a station, and its patterns are listed.
   pub listed : (instance : List ℕ) → run.command ≡ Some (patterns instance) → run.status ≡ 0 → Gives run answers.listed
-
   -- Status 0 of `make`: the station that the number makes is given as text.
   pub made : (words : GeneratedView) → run.command ≡ Some (make words) → run.status ≡ 0 → Gives run answers.made
-
   -- Status 0 of `trial`: the station that the number makes has a plan of the printed cost, no feasible plan costs less, and a proof
   -- is accepted with that bound. The root line is as above.
   pub tried : (words : GeneratedView) → run.command ≡ Some (trial words) → run.status ≡ 0 → Gives run answers.tried_optimal
-
   -- Status 0 of `cost`, `platforms` and `paths`: the plan's text is a plan of the station, it is feasible, and the
   -- report is its costs or its chart.
   pub reported : (asked : AskedView) → asked_of run.command ≡ Some asked → run.status ≡ 0 → Gives run answers.reported
-
   -- Status 3: the instance is read as the printed refusal at the printed place.
   pub instance_refused : run.status ≡ 3 → Gives run answers.unread
-
   -- Status 4: the plan's text is refused with the printed kind at the printed record.
   pub plan_refused : run.status ≡ 4 → Gives run answers.refused_plan
-
   -- Status 5: the proof's text is refused with the printed kind at the printed record.
   pub proof_refused : run.status ≡ 5 → Gives run answers.refused_proof
-
   -- Status 9: the printed pair is the first of the plan that is forbidden.
   pub conflict : run.status ≡ 9 → Gives run answers.conflict
-
   -- Status 12 comes exactly where no chart has the minutes of the words, but for a fault while the line is put.
   pub window : run.status ≡ 12 → Gives run answers.window
   pub no_window : (window : Window) → bad_window_of run.command ≡ Some window → (run.status ≡ 12) ⊎ IsCutOff run.status
-
   -- Status 2 comes exactly where the words are no command, but for a fault while the usage text is put.
   pub usage : run.status ≡ 2 → Gives run answers.usage
   pub no_command : run.command ≡ None → (run.status ≡ 2) ⊎ IsCutOff run.status
-
   -- Status 6 comes only where a read of an input failed, of the proof and the plan only where the instance is a station, and then
   -- nothing was given.
   pub read_fault : run.status ≡ 6 → ReadFailed run
   pub nothing : run.status ≡ 6 → GivesNothing run
-
   -- Status 7 comes only where a write of a named file failed, or a put.
   pub write_fault : run.status ≡ 7 → WriteFailed run ⊎ PutFailed run
-
   -- With every status but 6, 7 and 8 an answer of the command was given whole: its status, its text and its files.
   pub whole : IsFinished run.status → GivesWhole run
-
   -- With 7 and 8 nothing was given, or an answer in part. A line was put only where the plan's FILE and the proof's FILE hold
   -- their new text, and the proof's FILE has its new text only where the plan's has.
   pub cut : IsCutOff run.status → GivesNothing run ⊎ GivesPart run
-
   -- No name changes but the plan's FILE and the proof's FILE of `solve`. The first holds what it held, or the whole text of a
   -- feasible plan, the second what it held, or the whole text of a proof that is accepted; or a write of it has failed.
   pub unchanged : (name : List ℕ) → (Writes run.command name → ⊥) → run.after.held name ≡ run.before.held name
   pub plan_file : (words : SolveView) (name : List ℕ) → run.command ≡ Some (solve words) → words.plan ≡ Some name → KeepsPlanFile run words.instance name
   pub proof_file : (words : SolveView) (name : List ℕ) → run.command ≡ Some (solve words) → words.proof ≡ Some name → KeepsProofFile run words.instance name
-
   -- Where nothing failed a command ends with one of its own statuses, and what the shelf holds says which.
   pub complete : NothingFailed run → Contains (statuses run.command) run.status
   pub solve_exact : (words : SolveView) (bytes : List ℕ) → run.command ≡ Some (solve words) → run.before.held words.instance ≡ Some bytes

@@ -41,24 +41,24 @@ pub struct Status {
 /// docs/RULES.md says which plans are feasible and what they cost.
 pub fn run<S: Shelf, K: Sink>(alloc: Global, words: &[String], shelf: &mut S, out: &mut K) -> Status
     ensures { KeepsPromises (record {
-            tells = S.tells;
-            command = command_of (map string_bytes words.now);
-            before = record {
-                held = S.held shelf.old;
-                written = K.written out.old;
-                read_faults = S.read_faults shelf.old;
-                write_faults = S.write_faults shelf.old;
-                put_faults = K.faults out.old;
-            };
-            after = record {
-                held = S.held shelf.new;
-                written = K.written out.new;
-                read_faults = S.read_faults shelf.new;
-                write_faults = S.write_faults shelf.new;
-                put_faults = K.faults out.new;
-            };
-            status = result.code;
-        }) }
+      tells = S.tells;
+      command = command_of (map string_bytes words.now);
+      before = record {
+        held = S.held shelf.old;
+        written = K.written out.old;
+        read_faults = S.read_faults shelf.old;
+        write_faults = S.write_faults shelf.old;
+        put_faults = K.faults out.old;
+      };
+      after = record {
+        held = S.held shelf.new;
+        written = K.written out.new;
+        read_faults = S.read_faults shelf.new;
+        write_faults = S.write_faults shelf.new;
+        put_faults = K.faults out.new;
+      };
+      status = result.code;
+    }) }
 {
     carry_out(alloc, words, shelf, out)
 }
