@@ -6,20 +6,20 @@ use Rattle.command_words.specs.Command.{CommandView, SolveView, CheckView, Gener
 use Rattle.shelf.specs.Outside.{Same, Rose}
 use Rattle.station_reader.specs.Reading.{reading}
 use Rattle.platform_cli.specs.declared.asked.Window.{Window}
-use Rattle.platform_cli.specs.Answers.{IsUsage, IsWindow, IsUnread, IsOptimal, IsBounded, IsListed, IsMade, IsTriedOptimal, SaysNoPlan, SaysOpen, IsProofRefused, IsChecked, IsPlanRefused, IsConflict, IsReported}
+use Rattle.platform_cli.specs.Answers.{IsUsage, IsWindow, IsUnread, IsOptimal, IsBounded, IsListed, IsMade, IsTriedOptimal, IsNoPlan, IsTriedNoPlan, IsOpen, IsTriedOpen, IsProofRefused, IsChecked, IsPlanRefused, IsConflict, IsReported}
 use Rattle.platform_cli.specs.Asked.{AskedView, Reads, Writes, asked_of, bad_window_of}
 use Rattle.platform_cli.specs.Exact.{NoCallFailed, SearchEnds, SolveEnds, CheckEnds, ListingEnds, ReportEnds, statuses}
-use Rattle.platform_cli.specs.Given.{NewFile, Outcome}
+use Rattle.platform_cli.specs.Given.{Outcome}
 use Rattle.platform_cli.specs.Instance.{Held}
 use Rattle.platform_cli.specs.Outcome.{IsOutcome}
-use Rattle.platform_cli.specs.Run.{Faults, IsFinished, IsDone, IsCut, IsCutOff, IsNothing, IsEnded, IsOldOrWhole, IsPlanFile, IsProofKept, WasGiven}
+use Rattle.platform_cli.specs.Run.{Faults, IsFinished, IsDone, IsCut, IsCutOff, IsNothing, IsEnded, IsPlanFile, IsProofKept, WasGiven}
 use Rattle.platform_cli.specs.Statuses.{stop_code}
 use Rattle.platform_cli.specs.Trial.{trial_case, trial_splits}
 use Rattle.platform_cli.specs.declared.output.Stop.{Stop}
 use Rattle.platform_cli.specs.declared.output.Stop.TheVariants.{ReadFault, WriteFault, Memory}
-use Rattle.platform_cli.proofs.Files.{all_kept}
+use Rattle.platform_cli.proofs.Files.{IsOldOrWhole, all_kept, part_kept}
 use Rattle.platform_cli.proofs.Exactness.{status_in, solve_status, trial_status, check_status, bound_status, listing_status, report_status}
-use Rattle.platform_cli.proofs.Outcomes.{no_fault_code, usage_answer, window_status, refused_answer, no_plan_answer, stopped_answer, proof_refused_answer, plan_refused_answer, conflict_answer, optimal_answer, checked_status, made_status, tried_status, bounded_status, listed_status, reported_answer, bad_status, none_status, bad_window_reads, none_reads}
+use Rattle.platform_cli.proofs.Outcomes.{SaysNoPlan, SaysOpen, no_fault_code, usage_answer, window_status, refused_answer, no_plan_answer, stopped_answer, proof_refused_answer, plan_refused_answer, conflict_answer, optimal_answer, checked_status, made_status, tried_status, bounded_status, listed_status, reported_answer, bad_status, none_status, bad_window_reads, none_reads}
 use Rattle.platform_cli.proofs.PlanFiles.{unwritten_kept, plan_kept, proof_kept}
 use Rattle.command_words.specs.Command.{are_apart}
 use Rattle.std.proofs.Common.{true}
@@ -44,13 +44,6 @@ pub stopped_at : (stop : Stop) (n : ℕ) → n ≡ stop_code stop → (n ≡ 6) 
 stopped_at ReadFault n is = inl is
 stopped_at WriteFault n is = inr (inl is)
 stopped_at Memory n is = inr (inr is)
-
--- what was so before the files were written was so when the run began
-pub from_before : (tells : Bool) (files : List NewFile) (old mid new : Held) (first before now : Faults) (name : List ℕ) → mid name ≡ old name → before name ≡ first name
-    → IsOldOrWhole tells files mid new before now name → IsOldOrWhole tells files old new first now name
-from_before tells files old mid new first before now name same counts (inl kept) = inl (kept ∙ same)
-from_before tells files old mid new first before now name same counts (inr (inl whole)) = inr (inl whole)
-from_before tells files old mid new first before now name same counts (inr (inr (named, rose))) = inr (inr (named, omega (arith, counts, rose)))
 
 finished_at : (status n : ℕ) → status ≡ n → (n < 6) ⊎ (8 < n) → IsFinished status
 finished_at status n at (inl below) = record {
@@ -127,11 +120,20 @@ module _ {tells : Bool} {command : Option CommandView} {status : ℕ} {old new :
   pub reported_given : (asked : AskedView) → asked_of command ≡ Some asked → status ≡ 0 → WasGiven (IsReported tells old command) tells old new before now
   reported_given asked words at = given_at 0 at (inl (omega arith)) (IsReported tells old command) (λ outcome is code. reported_answer tells old command asked outcome words is code)
 
-  pub no_plan_given : status ≡ 10 → WasGiven (SaysNoPlan tells old command) tells old new before now
-  no_plan_given at = given_at 10 at (inr (omega arith)) (SaysNoPlan tells old command) (λ outcome is code. no_plan_answer tells old command outcome is code)
+  -- of two kinds one was given
+  either_given : (P Q : Outcome → Type 0) → WasGiven (λ outcome. P outcome ⊎ Q outcome) tells old new before now → WasGiven P tells old new before now ⊎ WasGiven Q tells old new before now
+  either_given P Q given = elim given.is [
+    | inl is ↦ inl (record { outcome = given.outcome; is = is; text = given.text; files = given.files })
+    | inr is ↦ inr (record { outcome = given.outcome; is = is; text = given.text; files = given.files })
+  ]
 
-  pub open_given : status ≡ 11 → WasGiven (SaysOpen tells old command) tells old new before now
-  open_given at = given_at 11 at (inr (omega arith)) (SaysOpen tells old command) (λ outcome is code. stopped_answer tells old command outcome is code)
+  pub no_plan_given : status ≡ 10 → WasGiven (IsNoPlan tells old command) tells old new before now ⊎ WasGiven (IsTriedNoPlan command) tells old new before now
+  no_plan_given at = either_given (IsNoPlan tells old command) (IsTriedNoPlan command)
+      (given_at 10 at (inr (omega arith)) (SaysNoPlan tells old command) (λ outcome is code. no_plan_answer tells old command outcome is code))
+
+  pub open_given : status ≡ 11 → WasGiven (IsOpen tells old command) tells old new before now ⊎ WasGiven (IsTriedOpen command) tells old new before now
+  open_given at = either_given (IsOpen tells old command) (IsTriedOpen command)
+      (given_at 11 at (inr (omega arith)) (SaysOpen tells old command) (λ outcome is code. stopped_answer tells old command outcome is code))
 
   pub proof_refused_given : status ≡ 5 → WasGiven (IsProofRefused tells old command) tells old new before now
   proof_refused_given at = given_at 5 at (inl (omega arith)) (IsProofRefused tells old command) (λ outcome is code. proof_refused_answer tells old command outcome is code)
@@ -202,7 +204,7 @@ module _ {tells : Bool} {command : Option CommandView} {status : ℕ} {old new :
   named_as name = elim ended.way [
     | inl done ↦ inr (done.outcome, done.is_outcome, all_kept tells done.outcome.files old new faults_before faults_now done.files name)
     | inr other ↦ elim other [
-      | inl cut ↦ inr (cut.1.outcome, cut.1.is_outcome, cut.1.files name)
+      | inl cut ↦ inr (cut.1.outcome, cut.1.is_outcome, part_kept tells cut.1.outcome old new faults_before faults_now before now cut.1.given name)
       | inr stop ↦ inl (stop.1.held name)
     ]
   ]

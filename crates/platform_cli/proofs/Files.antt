@@ -1,18 +1,25 @@
 -- Files that are written one after another.
-use Rattle.std.proofs.Common.{◌≡◌, ◌≢◌, ◌⊎◌, inl, inr, ℕ, suc, ◌+◌, ◌≤◌, ◌<◌, Bool, true, false, cond, List, [], ◌∷◌, ◌++◌, length, take, get_or, fold, MatchOption, None, Some, Result, refl, sym, ◌∙◌, ap, subst, arith, length-take}
+use Rattle.std.proofs.Common.{◌≡◌, ◌≢◌, ◌⊎◌, inl, inr, ℕ, zero, suc, ◌+◌, ◌≤◌, ◌<◌, Bool, true, false, cond, List, [], ◌∷◌, ◌++◌, length, take, drop, get_or, fold, MatchOption, None, Some, Result, refl, sym, ◌∙◌, ap, subst, arith, take-append-drop}
 use Rattle.std.specs.declared.option.Option.{Option}
 use Rattle.std.specs.Prelude.{Contains}
 use Rattle.std.specs.Str.{bytes_eq}
 use Rattle.std.proofs.lemmas.Slice.Eq.{bytes_eq-Decides}
-use Rattle.std.proofs.lemmas.List.{length-map, take_more, get_or-take, get_or-map, take_all}
+use Rattle.std.proofs.lemmas.List.{length-map, take_more, drop_more, get_or-map}
 use Rattle.std.proofs.lemmas.Option.{same_Some}
 use Rattle.std.proofs.lemmas.List.Sums.{fold_push}
 use Rattle.shelf.specs.declared.fault.ShelfFault.{ShelfFault}
 use Rattle.shelf.specs.declared.fault.ShelfFault.TheVariants.{Failed, Memory}
 use Rattle.shelf.specs.Outside.{Same, SameElsewhere, HasCause}
-use Rattle.platform_cli.specs.Given.{NewFile}
+use Rattle.platform_cli.specs.Given.{NewFile, Outcome}
 use Rattle.platform_cli.specs.Instance.{Held}
-use Rattle.platform_cli.specs.Run.{Faults, IsNamed, Now, last_bytes, HoldsFiles, IsOldOrWhole}
+use Rattle.platform_cli.specs.Run.{Faults, IsNamed, Now, last_bytes, HoldsName, HoldsFiles, StopsAtFile, IsGivenInPart}
+
+-- a name holds what it held, or the whole of a file of this name, or a write of it has failed
+abbrev pub IsOldOrWhole : Bool → List NewFile → Held → Held → Faults → Faults → List ℕ → Type 0
+IsOldOrWhole tells files old new before now name =
+    (new name ≡ old name)
+    ⊎ (((bytes : List ℕ) × Contains files (record { name = name; bytes = bytes }) × Now tells (new name) bytes)
+    ⊎ (IsNamed files name × (before name < now name)))
 
 -- a test on two texts, with what it says
 pub same_or_not : (xs ys : List ℕ) → ((bytes_eq xs ys ≡ true) × (xs ≡ ys)) ⊎ ((bytes_eq xs ys ≡ false) × (xs ≢ ys))
@@ -68,46 +75,109 @@ last_named files name bytes is = elim (found_in files name bytes None is) [
   | inr there ↦ there
 ]
 
-contains_front : {A : Type 0} (i : ℕ) (xs : List A) (x : A) → Contains (take i xs) x → Contains xs x
-contains_front i xs x (k, le, is) =
-    let short : k < i = omega (arith, length-take i xs) in
-    (k, omega (arith, length-take i xs), sym (get_or-take i xs k x short) ∙ is)
+contains_left : {A : Type 0} (xs ys : List A) (x : A) → Contains xs x → Contains (xs ++ ys) x
+contains_left [] ys x (k, le, is) = absurd (omega (arith, le))
+contains_left (a ∷ xs) ys x (zero, le, is) = (zero, omega arith, is)
+contains_left (a ∷ xs) ys x (suc k, le, is) = contains_rest x a (xs ++ ys) (contains_left xs ys x (k, omega (arith, le), is))
 
--- after some of the files each name holds what it held or the whole of a file
-pub front_kept : (tells : Bool) (files : List NewFile) (i : ℕ) (old mid new : Held) (before now : Faults) (name : List ℕ)
-    → HoldsFiles tells (take i files) old mid → new name ≡ mid name → IsOldOrWhole tells files old new before now name
-front_kept tells files i old mid new before now name holds same = by_last (last_bytes (take i files) name) refl
+contains_between : {A : Type 0} (xs : List A) (x : A) (ys : List A) → Contains (xs ++ x ∷ ys) x
+contains_between [] x ys = contains_first x ys
+contains_between (a ∷ xs) x ys = contains_rest x a (xs ++ x ∷ ys) (contains_between xs x ys)
+
+-- where some of the files were written a name holds what it held or the whole of a file
+front_kept : (tells : Bool) (files front : List NewFile) (old new : Held) (before now : Faults) (name : List ℕ) → ((file : NewFile) → Contains front file → Contains files file)
+    → HoldsName tells front old new name → IsOldOrWhole tells files old new before now name
+front_kept tells files front old new before now name among holds = by_last (last_bytes front name) refl
   where
-    by_last : (found : Option (List ℕ)) → last_bytes (take i files) name ≡ found → IsOldOrWhole tells files old new before now name
-    by_last None is = inl (same ∙ subst (λ (o : Option (List ℕ)). MatchOption o (mid name ≡ old name) (λ bytes. Now tells (mid name) bytes)) is (holds name))
+    by_last : (found : Option (List ℕ)) → last_bytes front name ≡ found → IsOldOrWhole tells files old new before now name
+    by_last None is = inl (subst (λ (o : Option (List ℕ)). MatchOption o (new name ≡ old name) (λ bytes. Now tells (new name) bytes)) is holds)
     by_last (Some bytes) is = inr (inl (
       bytes,
-      contains_front i files _ (last_named (take i files) name bytes is),
-      subst (λ (held : Option (List ℕ)). Now tells held bytes) (sym same) (subst (λ (o : Option (List ℕ)). MatchOption o (mid name ≡ old name) (λ bytes. Now tells (mid name) bytes)) is (holds name)),
+      among (record { name = name; bytes = bytes }) (last_named front name bytes is),
+      subst (λ (o : Option (List ℕ)). MatchOption o (new name ≡ old name) (λ bytes. Now tells (new name) bytes)) is holds,
     ))
 
 pub is_named : (files : List NewFile) (i : ℕ) (file : NewFile) → i < length files → file ≡ get_or files i file → IsNamed files file.name
 is_named files i file le is =
     (i, omega (arith, length-map files (λ (f : NewFile). f.name)), get_or-map (λ (f : NewFile). f.name) files i file file.name le ∙ ap (λ (f : NewFile). f.name) (sym is))
 
+pub contained_name : (files : List NewFile) (file : NewFile) → Contains files file → IsNamed files file.name
+contained_name files file (k, le, is) = is_named files k file le (sym is)
+
+-- a name that holds what it held a moment ago
+holds_still : (tells : Bool) (files : List NewFile) (old mid new : Held) (name : List ℕ) → new name ≡ mid name → HoldsName tells files old mid name → HoldsName tells files old new name
+holds_still tells files old mid new name same holds =
+    subst (λ (held : Option (List ℕ)). MatchOption (last_bytes files name) (held ≡ old name) (λ bytes. Now tells held bytes)) (sym same) holds
+
 -- after some of the files, and a write of the next that stopped
+stopped_name : (tells : Bool) (files : List NewFile) (file : NewFile) (old mid new : Held) (before between now : Faults) (fault : ShelfFault)
+    → HoldsFiles tells files old mid → ((name : List ℕ) → before name ≤ between name)
+    → SameElsewhere file.name mid new → (fault ≡ Failed → between file.name < now file.name) → (fault ≡ Memory → Same mid new)
+    → (name : List ℕ) → HoldsName tells files old new name ⊎ ((name ≡ file.name) × (before name < now name))
+stopped_name tells files file old mid new before between now Memory holds later others failed unchanged name =
+    inl (holds_still tells files old mid new name (unchanged refl name) (holds name))
+stopped_name tells files file old mid new before between now Failed holds later others failed unchanged name = elim (same_or_not file.name name) [
+  | inl at ↦ inr (sym at.1, subst (λ (n : List ℕ). before n < now n) at.1 (omega (arith, later file.name, failed refl)))
+  | inr at ↦ inl (holds_still tells files old mid new name (others name (λ same. at.1 (sym same))) (holds name))
+]
+
 pub stopped : (tells : Bool) (files : List NewFile) (i : ℕ) (file : NewFile) (old mid new : Held) (before between now : Faults) (fault : ShelfFault)
     → i < length files → file ≡ get_or files i file → HoldsFiles tells (take i files) old mid → ((name : List ℕ) → before name ≤ between name)
     → SameElsewhere file.name mid new → (fault ≡ Failed → between file.name < now file.name) → (fault ≡ Memory → Same mid new)
-    → (name : List ℕ) → IsOldOrWhole tells files old new before now name
-stopped tells files i file old mid new before between now Memory le is holds later others failed unchanged name =
-    front_kept tells files i old mid new before now name holds (unchanged refl name)
-stopped tells files i file old mid new before between now Failed le is holds later others failed unchanged name = elim (same_or_not file.name name) [
-  | inl at ↦ inr (inr (
-    subst (λ (n : List ℕ). IsNamed files n) at.1 (is_named files i file le is),
-    subst (λ (n : List ℕ). before n < now n) at.1 (omega (arith, later file.name, failed refl)),
-  ))
-  | inr at ↦ front_kept tells files i old mid new before now name holds (others name (λ same. at.1 (sym same)))
-]
+    → StopsAtFile tells files old new before now
+stopped tells files i file old mid new before between now fault le is holds later others failed unchanged = record {
+  written = take i files;
+  file = file;
+  unwritten = drop (i + 1) files;
+  order =
+      sym (take-append-drop i files)
+      ∙ ap (λ (fs : List NewFile). take i files ++ fs) (drop_more files i file le ∙ ap (λ (f : NewFile). f ∷ drop (i + 1) files) (sym is));
+  holds = stopped_name tells (take i files) file old mid new before between now fault holds later others failed unchanged;
+}
 
 pub all_kept : (tells : Bool) (files : List NewFile) (old new : Held) (before now : Faults) → HoldsFiles tells files old new → (name : List ℕ) → IsOldOrWhole tells files old new before now name
-all_kept tells files old new before now holds name =
-    front_kept tells files (length files) old new new before now name (subst (λ (fs : List NewFile). HoldsFiles tells fs old new) (sym (take_all (length files) files (omega arith))) holds) refl
+all_kept tells files old new before now holds name = front_kept tells files files old new before now name (λ file there. there) (holds name)
+
+stopped_kept : (tells : Bool) (files : List NewFile) (old new : Held) (before now : Faults) → StopsAtFile tells files old new before now → (name : List ℕ) → IsOldOrWhole tells files old new before now name
+stopped_kept tells files old new before now stop name = elim (stop.holds name) [
+  | inl holds ↦ front_kept tells files stop.written old new before now name
+      (λ file there. subst (λ (fs : List NewFile). Contains fs file) (sym stop.order) (contains_left stop.written (stop.file ∷ stop.unwritten) file there))
+      holds
+  | inr at ↦
+      let there : Contains files stop.file = subst (λ (fs : List NewFile). Contains fs stop.file) (sym stop.order) (contains_between stop.written stop.file stop.unwritten) in
+      inr (inr (subst (λ (n : List ℕ). IsNamed files n) (sym at.0) (contained_name files stop.file there), at.1))
+]
+
+-- where an outcome was given in part each name holds what it held or the whole of a file, or a write of it has failed
+pub part_kept : (tells : Bool) (outcome : Outcome) (old new : Held) (before now : Faults) (put_before put_now : Option (List ℕ)) → IsGivenInPart tells outcome old new before now put_before put_now
+    → (name : List ℕ) → IsOldOrWhole tells outcome.files old new before now name
+part_kept tells outcome old new before now put_before put_now (inl (stop, put)) name = stopped_kept tells outcome.files old new before now stop name
+part_kept tells outcome old new before now put_before put_now (inr front) name = all_kept tells outcome.files old new before now front.files name
+
+-- what was so before the files were written was so when the run began
+holds_from : (tells : Bool) (files : List NewFile) (old mid new : Held) (name : List ℕ) → mid name ≡ old name → HoldsName tells files mid new name → HoldsName tells files old new name
+holds_from tells files old mid new name same holds =
+    subst (λ (held : Option (List ℕ)). MatchOption (last_bytes files name) (new name ≡ held) (λ bytes. Now tells (new name) bytes)) same holds
+
+pub part_from : (tells : Bool) (outcome : Outcome) (old mid new : Held) (first before now : Faults) (put_before put_now : Option (List ℕ)) → Same old mid → Same first before
+    → IsGivenInPart tells outcome mid new before now put_before put_now → IsGivenInPart tells outcome old new first now put_before put_now
+part_from tells outcome old mid new first before now put_before put_now same counts (inl (stop, put)) = inl (
+  record {
+    written = stop.written;
+    file = stop.file;
+    unwritten = stop.unwritten;
+    order = stop.order;
+    holds = λ name. elim (stop.holds name) [
+      | inl holds ↦ inl (holds_from tells stop.written old mid new name (same name) holds)
+      | inr at ↦ inr (at.0, omega (arith, counts name, at.1))
+    ];
+  },
+  put,
+)
+part_from tells outcome old mid new first before now put_before put_now same counts (inr front) = inr (record {
+  files = λ name. holds_from tells outcome.files old mid new name (same name) (front.files name);
+  text = front.text;
+})
 
 -- no count of faults falls by a write more
 pub later_more : (name : List ℕ) (before between now : Faults) → ((other : List ℕ) → before other ≤ between other) → between name ≤ now name → SameElsewhere name between now → (other : List ℕ) → before other ≤ now other

@@ -9,6 +9,7 @@ pub mod Verdicts
 pub mod Outcomes
 pub mod PlanFiles
 pub mod Ends
+pub mod Promised
 pub mod Exactness
 pub mod FedSteps
 pub mod SolveSteps

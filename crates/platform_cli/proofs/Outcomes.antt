@@ -6,12 +6,20 @@ use Rattle.command_words.specs.Command.{CommandView, SolveView, CheckView, Gener
 use Rattle.pair_prices.specs.Case.{CaseRecord, rule_case}
 use Rattle.leaf_bounds.specs.declared.tree.Bound.{Bound}
 use Rattle.platform_cli.specs.declared.asked.Window.{Window}
-use Rattle.platform_cli.specs.Answers.{IsUsage, IsWindow, IsUnread, IsOptimal, IsBounded, IsListed, IsMade, IsTriedOptimal, SaysNoPlan, SaysOpen, IsProofRefused, IsBoundTold, IsChecked, IsPlanRefused, IsConflict, IsReported}
+use Rattle.platform_cli.specs.Answers.{IsUsage, IsWindow, IsUnread, IsOptimal, IsBounded, IsListed, IsMade, IsTriedOptimal, IsNoPlan, IsTriedNoPlan, IsOpen, IsTriedOpen, IsProofRefused, IsBoundTold, IsChecked, IsPlanRefused, IsConflict, IsReported}
 use Rattle.platform_cli.specs.Asked.{AskedView, Reads, asked_of, bad_window, bad_window_of, instance_of, requested, unless_bad}
 use Rattle.platform_cli.specs.Given.{Outcome}
 use Rattle.platform_cli.specs.Instance.{Held}
 use Rattle.platform_cli.specs.Outcome.{Answer, IsAnswer, IsOutcome, usage, window, unread, optimal, no_plan, stopped, bounded, listed, made, tried_optimal, tried_none, tried_open, refused_proof, checked, refused_plan, conflict, reported}
 use Rattle.platform_cli.proofs.Answering.{asked_instance}
+
+-- It is said that no plan is feasible: of `solve`, or of `trial`.
+abbrev pub SaysNoPlan : Bool → Held → Option CommandView → Outcome → Type 0
+SaysNoPlan tells held command outcome = IsNoPlan tells held command outcome ⊎ IsTriedNoPlan command outcome
+
+-- It is said that the splits are spent: of `solve`, or of `trial`.
+abbrev pub SaysOpen : Bool → Held → Option CommandView → Outcome → Type 0
+SaysOpen tells held command outcome = IsOpen tells held command outcome ⊎ IsTriedOpen command outcome
 
 abbrev pub answer_code : Answer → ℕ
 answer_code usage = 2

@@ -20,9 +20,9 @@ use Rattle.platform_cli.specs.Answers.{IsBoundTold}
 use Rattle.platform_cli.specs.Given.{NewFile, Outcome}
 use Rattle.platform_cli.specs.Instance.{Held, IsInstance}
 use Rattle.platform_cli.specs.Outcome.{IsOutcome, usage, optimal, no_plan, stopped, tried_optimal, tried_none, tried_open, checked}
-use Rattle.platform_cli.specs.Run.{Faults, HoldsPlan, HoldsProof, IsNamed, IsOldOrWhole, IsPlanFile, IsProofKept, Now}
+use Rattle.platform_cli.specs.Run.{Faults, HoldsPlan, HoldsProof, IsNamed, IsPlanFile, IsProofKept, Now}
 use Rattle.platform_cli.specs.Solve.{IsKnownAbove, IsProofFile, known_files}
-use Rattle.platform_cli.proofs.Files.{is_named}
+use Rattle.platform_cli.proofs.Files.{IsOldOrWhole, contained_name}
 
 both_true : (a b : Bool) → (a && b) ≡ true → (a ≡ true) × (b ≡ true)
 both_true true b is = (refl, is)
@@ -162,15 +162,12 @@ named_written tells held command outcome name is named = elim (files_of tells he
   | inr wrote ↦ wrote_named tells held command outcome.files wrote name named
 ]
 
-contained_named : (files : List NewFile) (name bytes : List ℕ) → Contains files (record { name = name; bytes = bytes }) → IsNamed files name
-contained_named files name bytes (k, le, is) = is_named files k (record { name = name; bytes = bytes }) le (sym is)
-
 -- a name that isn't written keeps what it held
 pub unwritten_kept : (tells : Bool) (command : Option CommandView) (outcome : Outcome) (old new : Held) (before now : Faults) (name : List ℕ) → IsOutcome tells old command outcome → (Writes command name → ⊥)
     → IsOldOrWhole tells outcome.files old new before now name → new name ≡ old name
 unwritten_kept tells command outcome old new before now name is unwritten (inl same) = same
 unwritten_kept tells command outcome old new before now name is unwritten (inr (inl (bytes, there, holds))) =
-    absurd (unwritten (named_written tells old command outcome name is (contained_named outcome.files name bytes there)))
+    absurd (unwritten (named_written tells old command outcome name is (contained_name outcome.files (record { name = name; bytes = bytes }) there)))
 unwritten_kept tells command outcome old new before now name is unwritten (inr (inr (named, rose))) =
     absurd (unwritten (named_written tells old command outcome name is named))
 

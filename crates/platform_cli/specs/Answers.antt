@@ -141,14 +141,6 @@ pub record IsTriedOpen (command : Option CommandView) (outcome : Outcome) : Type
   pub asked : command ≡ Some (trial words)
   pub found : IsOpenTrial (trial_case words) words.trains outcome
 
--- It is said that no plan is feasible: of `solve`, or of `trial`.
-abbrev pub SaysNoPlan : Bool → Held → Option CommandView → Outcome → Type 0
-SaysNoPlan tells held command outcome = IsNoPlan tells held command outcome ⊎ IsTriedNoPlan command outcome
-
--- It is said that the splits are spent: of `solve`, or of `trial`.
-abbrev pub SaysOpen : Bool → Held → Option CommandView → Outcome → Type 0
-SaysOpen tells held command outcome = IsOpen tells held command outcome ⊎ IsTriedOpen command outcome
-
 -- The proof that a command reads before a plan is accepted.
 abbrev pub IsProofTaken : Bool → Held → Option CommandView → CaseRecord → Type 0
 IsProofTaken tells held (Some (check words)) c = (bound : Bound) × IsProof tells held words.proof c (Ok bound)

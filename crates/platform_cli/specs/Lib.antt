@@ -7,6 +7,7 @@ pub mod Judge
 pub mod Check
 pub mod Fed
 pub mod Outcome
+pub mod Promises
 pub mod Reading
 pub mod Report
 pub mod Run

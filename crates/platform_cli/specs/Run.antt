@@ -1,5 +1,5 @@
 -- How a run leaves the shelf and the sink.
-use Rattle.std.specs.Prelude.{◌≡◌, ◌≢◌, ◌⊎◌, ℕ, ◌<◌, Bool, List, fold, map, Contains, if◌then◌else◌, None, Some, IfSome, IsSome, IsTrue, MatchOption}
+use Rattle.std.specs.Prelude.{◌≡◌, ◌≢◌, ◌⊎◌, ℕ, ◌<◌, Bool, List, ◌∷◌, ◌++◌, fold, map, Contains, if◌then◌else◌, None, Some, IfSome, IsSome, IsTrue, MatchOption}
 use Rattle.std.specs.declared.option.Option.{Option}
 use Rattle.std.specs.Str.{bytes_eq}
 use Rattle.std.specs.Io.KnownBytes.{Appends, Keeps}
@@ -39,16 +39,32 @@ pub record Now (tells : Bool) (held : Option (List ℕ)) (bytes : List ℕ) : Ty
   pub same : IfSome held (λ known. known ≡ bytes)
   pub told : IsTrue tells → IsSome held
 
+-- a name holds what the last file of this name has, or what it held where no file has this name
+abbrev pub HoldsName : Bool → List NewFile → Held → Held → List ℕ → Type 0
+HoldsName tells files old new name = MatchOption (last_bytes files name) (new name ≡ old name) (λ bytes. Now tells (new name) bytes)
+
 -- each name holds what the last file of this name has, and the other names what they held
 abbrev pub HoldsFiles : Bool → List NewFile → Held → Held → Type 0
-HoldsFiles tells files old new = (name : List ℕ) → MatchOption (last_bytes files name) (new name ≡ old name) (λ bytes. Now tells (new name) bytes)
+HoldsFiles tells files old new = (name : List ℕ) → HoldsName tells files old new name
 
--- a name holds what it held, or the whole of a file of this name, or a write of it has failed
-abbrev pub IsOldOrWhole : Bool → List NewFile → Held → Held → Faults → Faults → List ℕ → Type 0
-IsOldOrWhole tells files old new before now name =
-    (new name ≡ old name)
-    ⊎ (((bytes : List ℕ) × Contains files (record { name = name; bytes = bytes }) × Now tells (new name) bytes)
-    ⊎ (IsNamed files name × (before name < now name)))
+-- The files were written in their order up to one of them: those before it hold their new text, and every other name holds what
+-- it held. What that one file holds is open only where a write of it has failed.
+pub record StopsAtFile (tells : Bool) (files : List NewFile) (old new : Held) (faults_before faults_now : Faults) : Type 0 where
+  pub written : List NewFile
+  pub file : NewFile
+  pub unwritten : List NewFile
+  pub order : files ≡ written ++ file ∷ unwritten
+  pub holds : (name : List ℕ) → HoldsName tells written old new name ⊎ ((name ≡ file.name) × (faults_before name < faults_now name))
+
+-- all files hold their new text, and a front of the text was put
+pub record GivesFront (tells : Bool) (outcome : Outcome) (old new : Held) (before now : Option (List ℕ)) : Type 0 where
+  pub files : HoldsFiles tells outcome.files old new
+  pub text : AppendsPrefix before now outcome.text
+
+-- an outcome was given up to a point: up to one of its files, and nothing was put; or all of its files, and a front of its text
+abbrev pub IsGivenInPart : Bool → Outcome → Held → Held → Faults → Faults → Option (List ℕ) → Option (List ℕ) → Type 0
+IsGivenInPart tells outcome old new faults_before faults_now before now =
+    (StopsAtFile tells outcome.files old new faults_before faults_now × Keeps before now) ⊎ GivesFront tells outcome old new before now
 
 -- an outcome of this kind was given whole: its text was put, and its files were written
 pub record WasGiven (Is : Outcome → Type 0) (tells : Bool) (old new : Held) (before now : Option (List ℕ)) : Type 0 where
@@ -65,12 +81,12 @@ pub record IsDone (tells : Bool) (command : Option CommandView) (status : ℕ) (
   pub text : Appends before now outcome.text
   pub files : HoldsFiles tells outcome.files old new
 
--- a front of an outcome of the command was given
+-- An outcome of the command was given in part: something was put only where all of its files hold their new text, a file holds
+-- its new text only where all before it do, and what was put is a front of its text.
 pub record IsCut (tells : Bool) (command : Option CommandView) (old new : Held) (faults_before faults_now : Faults) (before now : Option (List ℕ)) : Type 0 where
   pub outcome : Outcome
   pub is_outcome : IsOutcome tells old command outcome
-  pub text : AppendsPrefix before now outcome.text
-  pub files : (name : List ℕ) → IsOldOrWhole tells outcome.files old new faults_before faults_now name
+  pub given : IsGivenInPart tells outcome old new faults_before faults_now before now
 
 -- nothing was given
 pub record IsNothing (old new : Held) (before now : Option (List ℕ)) : Type 0 where
@@ -81,7 +97,7 @@ pub record IsNothing (old new : Held) (before now : Option (List ℕ)) : Type 0 
 abbrev pub IsCutOff : ℕ → Type 0
 IsCutOff status = (status ≡ 7) ⊎ (status ≡ 8)
 
--- an outcome was given whole, or a front of it, or nothing
+-- an outcome was given whole, or in part, or nothing
 pub record IsEnded (tells : Bool) (command : Option CommandView) (status : ℕ) (old new : Held) (faults_before faults_now : Faults) (before now : Option (List ℕ)) : Type 0 where
   pub way :
       IsDone tells command status old new before now

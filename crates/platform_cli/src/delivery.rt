@@ -2,9 +2,9 @@
 ghost use Rattle.std.specs.Prelude.{◌≡◌, ◌⊎◌, ◌<◌, ◌≤◌, ◌≢◌, ◌-◌, List, ℕ, map, length, OnOk, OnErr, IsErrOf, slice_index, All, take, drop};
 ghost use Rattle.std.specs.Io.KnownBytes.{Appends, Keeps};
 ghost use Rattle.shelf.specs.Outside.{Same, AppendsPrefix, Rose, HasSinkCause};
-ghost use Rattle.platform_cli.specs.Run.{HoldsFiles, IsOldOrWhole, IsNamed};
+ghost use Rattle.platform_cli.specs.Run.{HoldsFiles, IsGivenInPart, IsNamed, StopsAtFile};
 ghost use Rattle.platform_cli.specs.Statuses.{stop_of};
-ghost use Rattle.platform_cli.specs.View.{file_of};
+ghost use Rattle.platform_cli.specs.View.{file_of, outcome_of};
 
 use crate::output::{Output, OutputFile, Stop};
 use shelf::{Shelf, ShelfFault, Sink};
@@ -17,9 +17,8 @@ pub(crate) fn deliver<S: Shelf, K: Sink>(
 ) -> Result<(), Stop>
     ensures files { OnOk result (HoldsFiles S.tells (map file_of output.now.files.items) (S.held shelf.old) (S.held shelf.new)) }
     ensures text { OnOk result (Appends (K.written out.old) (K.written out.new) output.now.text.items) }
-    ensures old_or_whole { (name : List ℕ) → IsOldOrWhole S.tells (map file_of output.now.files.items) (S.held shelf.old) (S.held shelf.new)
-        (S.write_faults shelf.old) (S.write_faults shelf.new) name }
-    ensures front { OnErr result (AppendsPrefix (K.written out.old) (K.written out.new) output.now.text.items) }
+    ensures part { OnErr result (IsGivenInPart S.tells (outcome_of output.now) (S.held shelf.old) (S.held shelf.new)
+        (S.write_faults shelf.old) (S.write_faults shelf.new) (K.written out.old) (K.written out.new)) }
     ensures cause { IsErrOf result Stop.WriteFault →
         ((name : List ℕ) × IsNamed (map file_of output.now.files.items) name × (S.write_faults shelf.old name < S.write_faults shelf.new name))
         ⊎ Rose (K.faults out.old) (K.faults out.new) }
@@ -41,8 +40,8 @@ fn stop_of(fault: ShelfFault) -> Stop
 
 fn write_files<S: Shelf>(shelf: &mut S, files: &[OutputFile]) -> Result<(), ShelfFault>
     ensures files { OnOk result (HoldsFiles S.tells (map file_of files.now) (S.held shelf.old) (S.held shelf.new)) }
-    ensures old_or_whole { (name : List ℕ) → IsOldOrWhole S.tells (map file_of files.now) (S.held shelf.old) (S.held shelf.new)
-        (S.write_faults shelf.old) (S.write_faults shelf.new) name }
+    ensures stopped { OnErr result (StopsAtFile S.tells (map file_of files.now) (S.held shelf.old) (S.held shelf.new)
+        (S.write_faults shelf.old) (S.write_faults shelf.new)) }
     ensures cause { IsErrOf result ShelfFault.Failed →
         (name : List ℕ) × IsNamed (map file_of files.now) name × (S.write_faults shelf.old name < S.write_faults shelf.new name) }
     ensures reads { Same (S.read_faults shelf.old) (S.read_faults shelf.new) }

@@ -1,7 +1,8 @@
 use Rattle.std.proofs.Common.{rules, inl, inr, map, ap, arith, Err, string_bytes}
 use Rattle.command_words.specs.Command.{command_of}
-use Rattle.platform_cli.specs.View.{file_of, outcome_of}
-use Rattle.platform_cli.proofs.Ends.{cut_off, read_stop, stopped_at, write_stop, from_before}
+use Rattle.platform_cli.specs.View.{outcome_of}
+use Rattle.platform_cli.proofs.Ends.{cut_off, read_stop, stopped_at, write_stop}
+use Rattle.platform_cli.proofs.Files.{part_from}
 use Rattle.platform_cli.proofs.PlanFiles.{named_written}
 use Rattle.platform_cli.proofs.top.carry_out.Goals as goal
 
@@ -12,9 +13,9 @@ returns-in-Ok-clause-ended g c = record {
     record {
       outcome = outcome_of c.in-Ok.output;
       is_outcome = c.in-Ok.ensures.outcome;
-      text = c.in-Err-deliver.ensures.front;
-      files = λ name. from_before g.S.Shelf.tells (map file_of c.in-Ok.output.files.items) (g.S.Shelf.held c.args.shelf.now) (g.S.Shelf.held c.work.new.shelf) (g.S.Shelf.held c.deliver.new.shelf)
-          (g.S.Shelf.write_faults c.args.shelf.now) (g.S.Shelf.write_faults c.work.new.shelf) (g.S.Shelf.write_faults c.deliver.new.shelf) name (c.work.ensures.held name) (c.work.ensures.writes name) (c.deliver.ensures.old_or_whole name);
+      given = part_from g.S.Shelf.tells (outcome_of c.in-Ok.output) (g.S.Shelf.held c.args.shelf.now) (g.S.Shelf.held c.work.new.shelf) (g.S.Shelf.held c.deliver.new.shelf)
+          (g.S.Shelf.write_faults c.args.shelf.now) (g.S.Shelf.write_faults c.work.new.shelf) (g.S.Shelf.write_faults c.deliver.new.shelf)
+          (g.K.Sink.written c.args.out.now) (g.K.Sink.written c.deliver.new.out) c.work.ensures.held c.work.ensures.writes c.in-Err-deliver.ensures.part;
     },
   ));
 }
