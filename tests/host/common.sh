@@ -19,6 +19,11 @@ cp "$top/examples/one_platform.json" s || exit 1
 printf 'old plan\n' >old.plan
 printf 'old proof\n' >old.proof
 
+# wide_station TRAINS BLANKS: a station of so many trains, with so many blanks before one member of each
+wide_station() {
+    "$TPP" make 7 "$1" | sed "s/\"shift_price\"/$(printf "%$2s" '')&/g"
+}
+
 # broken WORDS..: counts and says what broke
 broken() {
     bad=$((bad + 1))

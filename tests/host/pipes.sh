@@ -2,7 +2,7 @@
 # Pipes: a pipe, a fifo and standard input are inputs, and a FILE may be a pipe or a device.
 . "$(dirname -- "$0")/common.sh"
 
-"$TPP" make 7 150 >big || exit 1
+wide_station 150 1000 >big
 "$TPP" patterns big >big.report || exit 1
 [ "$(wc -c <big)" -gt 65536 ] || broken 'the large station is one piece'
 

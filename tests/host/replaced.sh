@@ -23,19 +23,19 @@ END
 cc -shared -fPIC -O1 -w -o replace.so replace.c || exit 1
 
 late=0
-for trains in 110 120 130 140 150 160 170 180 190 200; do
-    "$TPP" make 7 $trains >first || exit 1
+for blanks in 1000 1250 1500 1750 2000 2250 2500 2750 3000 3250; do
+    wide_station 100 $blanks >first
     sed 's/"shift_price":10/"shift_price":99/g' first >second
     "$TPP" patterns first >first.report || exit 1
     "$TPP" patterns second >second.report || exit 1
     cmp -s first.report second.report && broken 'the stations are equal'
-    [ "$(wc -c <first)" -gt 65536 ] || broken "one read takes $trains trains"
+    [ "$(wc -c <first)" -gt 65536 ] || broken "one read takes $blanks blanks"
     for at in 1 2 3 4 5 6; do
         tried=$((tried + 1))
         cp first station
         cp second next
-        REPLACE_AT=$at LD_PRELOAD=$work/replace.so "$TPP" patterns station >out 2>err || broken "status $?, read $at of $trains trains"
-        cmp -s out first.report || cmp -s out second.report || broken "a blend at read $at of $trains trains"
+        REPLACE_AT=$at LD_PRELOAD=$work/replace.so "$TPP" patterns station >out 2>err || broken "status $?, read $at at $blanks blanks"
+        cmp -s out first.report || cmp -s out second.report || broken "a blend at read $at with $blanks blanks"
         [ -e next ] || late=$((late + 1))
     done
 done
