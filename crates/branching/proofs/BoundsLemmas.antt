@@ -3,7 +3,7 @@ use Rattle.std.proofs.Common.{◌≡◌, ℕ, ◌+◌, ◌-◌, ◌/◌, ◌<◌
 use Rattle.std.specs.Prelude.{Contains, int_le, slice_index, sum_by, MatchOption, IsTrue}
 use Rattle.std.proofs.lemmas.Int.{ints}
 use Rattle.std.proofs.lemmas.List.Elements.{Contains-get_or}
-use Rattle.station_reader.specs.Allowed.{numbers}
+use Rattle.station.specs.Allowed.{numbers}
 use Rattle.patterns.specs.Allowed.{Lists, list_of, FitsBook}
 use Rattle.pair_prices.specs.Case.{CaseRecord, IsCase}
 use Rattle.pair_prices.specs.Plan.{IsFeasible, cost}

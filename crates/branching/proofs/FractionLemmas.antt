@@ -4,7 +4,7 @@ use Rattle.std.specs.Prelude.{slice_index, sum_by}
 use Rattle.std.proofs.lemmas.List.Sums.{sum_by-cons}
 use Rattle.std.proofs.lemmas.Nat.{mul-le}
 use Rattle.std.proofs.Math.Nat.{le_of_mul-le-mul_left}
-use Rattle.station_reader.specs.Allowed.{numbers}
+use Rattle.station.specs.Allowed.{numbers}
 use Rattle.patterns.specs.declared.offer.Offer.{Offer}
 use Rattle.patterns.specs.Book.{no_offer, offers_of, price_at, Offers}
 use Rattle.patterns.specs.Allowed.{Lists, list_of}

@@ -16,7 +16,7 @@ use crate::search::Search;
 use crate::waiting::Key;
 use leaf_bounds::{Leaf, Node, Tree, bound_of_tree};
 use pair_prices::Case;
-use station_reader::Sequence;
+use sequence::Sequence;
 use std::alloc::{AllocError, Global};
 use std::mem;
 

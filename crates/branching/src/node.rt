@@ -26,7 +26,7 @@ use pair_prices::Case;
 use patterns::{Allowed, TwoParts};
 use plan_cost::Plan;
 use ratio::Width;
-use station_reader::Sequence;
+use sequence::Sequence;
 use std::alloc::{AllocError, Global};
 
 /// A leaf with what it says of the plans of its lists.

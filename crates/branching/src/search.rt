@@ -19,7 +19,7 @@ use pair_classes::Meetings;
 use pair_prices::Case;
 use patterns::Allowed;
 use ratio::Width;
-use station_reader::Sequence;
+use sequence::Sequence;
 use std::alloc::{AllocError, Global};
 
 /// A search between two splits.

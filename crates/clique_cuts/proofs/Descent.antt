@@ -4,7 +4,7 @@ use Rattle.std.specs.Prelude.{sum_by, int_le, int_lt, unsigned_abs, slice_index}
 use borrow.Author.Tests.{eqb-true}
 use Rattle.std.proofs.lemmas.Bool.Decides.{nat_tests}
 use Rattle.std.proofs.lemmas.Int.{ints}
-use Rattle.station_reader.specs.Allowed.{numbers}
+use Rattle.station.specs.Allowed.{numbers}
 use Rattle.path_conflicts.specs.Minutes.{free_from}
 use Rattle.patterns.specs.Allowed.{Lists, FitsBook, list_of}
 use Rattle.patterns.specs.Sound.{IsSound}

@@ -6,7 +6,7 @@ use borrow.Author.Tests.{ltb-true, ltb-false}
 use Rattle.std.proofs.lemmas.Int.{ints}
 use Rattle.std.proofs.lemmas.List.{length-append}
 use Rattle.std.proofs.lemmas.Option.{get_or_from_slice_get}
-use Rattle.station_reader.specs.Allowed.{numbers}
+use Rattle.station.specs.Allowed.{numbers}
 use Rattle.patterns.specs.declared.weights.Weights.{Weights}
 use Rattle.patterns.specs.Allowed.{Lists, list_of}
 use Rattle.patterns.specs.Weights.{choice_weights, weights_of, left_of, FitsLists}

@@ -2,14 +2,14 @@ ghost use Rattle.clique_cuts.specs.Over.{fraction_of};
 ghost use Rattle.pair_prices.specs.Fraction.{held_by_train, held_weight, holds_there, pattern_of};
 ghost use Rattle.path_conflicts.specs.Minutes.{free_from, headway_of, holds_platform};
 ghost use Rattle.patterns.specs.Sound.{IsSound};
-ghost use Rattle.station_reader.specs.Shown.{record_of};
+ghost use Rattle.station.specs.Shown.{record_of};
 ghost use Rattle.patterns.specs.Allowed.{FitsBook, list_of};
 ghost use Rattle.patterns.specs.Weights.{FitsLists};
 ghost use Rattle.std.specs.Prelude.{◌≡◌, ◌*◌, ◌^◌, ◌≤◌, ◌<◌, slice_get, if◌then◌else◌, length, pos, ◌≤ℤ◌};
 
 use pair_prices::Case;
 use patterns::{Allowed, Weights};
-use station_reader::{Pattern, Station};
+use station::{Pattern, Station};
 
 /// A platform at a minute.
 #[derive(Clone, Copy, Drop)]

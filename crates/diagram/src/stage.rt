@@ -1,11 +1,11 @@
 ghost use Rattle.diagram.specs.Signs.{stage_span};
 ghost use Rattle.patterns.specs.Sound.{IsSound};
-ghost use Rattle.station_reader.specs.Shown.{record_of};
+ghost use Rattle.station.specs.Shown.{record_of};
 ghost use Rattle.std.specs.Prelude.{◌≡◌};
 
 use pair_prices::held_platform;
 use path_conflicts::Held;
-use station_reader::{Pattern, Station};
+use station::{Pattern, Station};
 
 /// What a train does at its platform.
 #[derive(Clone, Copy, PartialEq, Eq, Debug, Drop)]

@@ -3,7 +3,7 @@ ghost use Rattle.diagram.specs.Text.{path_line};
 ghost use Rattle.diagram.specs.Uses.{count_sign, is_use, next_sign, path_sign, uses_of};
 ghost use Rattle.pair_prices.specs.Plan.{Fits, chosen};
 ghost use Rattle.patterns.specs.Sound.{IsSound};
-ghost use Rattle.station_reader.specs.Shown.{record_of};
+ghost use Rattle.station.specs.Shown.{record_of};
 ghost use Rattle.std.specs.Prelude.{◌≡◌, ℕ, ◌+◌, ◌++◌, ◌<◌, ◌≤◌, if◌then◌else◌, length, pos, slice_index, IfOk, OnOk};
 
 use crate::lines::push_line;
@@ -12,7 +12,7 @@ use crate::paint::{count_use, repeated};
 use crate::trains::pattern_of;
 use pair_prices::{Case, held_path, path_of};
 use plan_cost::Plan;
-use station_reader::{PathWay, Pattern, Station};
+use station::{PathWay, Pattern, Station};
 use std::alloc::{AllocError, Global};
 
 /// The signs of a path for `count` minutes.

@@ -1,14 +1,14 @@
 ghost use Rattle.diagram.specs.Text.{line_of, timetable_text, train_line, times};
 ghost use Rattle.pair_prices.specs.Plan.{Fits, IsFeasible, chosen};
 ghost use Rattle.patterns.specs.Sound.{IsSound};
-ghost use Rattle.station_reader.specs.Shown.{record_of};
+ghost use Rattle.station.specs.Shown.{record_of};
 ghost use Rattle.std.specs.Prelude.{◌≡◌, ◌++◌, ◌<◌, length, IfOk, OnOk};
 
 use crate::lines::push_word;
 use crate::names::{path_word, platform_name, train_name};
 use pair_prices::Case;
 use plan_cost::Plan;
-use station_reader::{Pattern, Station};
+use station::{Pattern, Station};
 use std::alloc::{AllocError, Global};
 
 /// The pattern that the plan gives the train.

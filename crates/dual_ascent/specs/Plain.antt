@@ -1,6 +1,6 @@
 -- How good a leaf is beside the leaf of least prices.
 use Rattle.std.specs.Prelude.{ℕ, sum_by, length, ◌≤ℤ◌}
-use Rattle.station_reader.specs.Allowed.{numbers}
+use Rattle.station.specs.Allowed.{numbers}
 use Rattle.patterns.specs.Allowed.{Lists}
 use Rattle.pair_prices.specs.Case.{CaseRecord}
 use Rattle.leaf_bounds.specs.declared.leaf.Leaf.{Leaf}

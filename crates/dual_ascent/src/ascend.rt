@@ -16,7 +16,7 @@ use crate::walk::{Next, Walk};
 use pair_classes::Meetings;
 use pair_prices::Case;
 use patterns::Allowed;
-use station_reader::Sequence;
+use sequence::Sequence;
 use std::alloc::{AllocError, Global};
 
 /// New cuts are looked for after so many steps each.

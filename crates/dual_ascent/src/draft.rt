@@ -2,7 +2,7 @@ ghost use Rattle.std.specs.Prelude.{◌≡◌, IfSome};
 
 use crate::ranges::{are_minute_values, are_pair_values, are_train_values, is_scale};
 use leaf_bounds::{Leaf, MinuteValue, PairValue, TrainValue};
-use station_reader::Sequence;
+use sequence::Sequence;
 
 /// Numbers for a leaf, in its order.
 #[derive(Drop)]

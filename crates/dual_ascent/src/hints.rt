@@ -1,6 +1,6 @@
 use leaf_bounds::{Leaf, LeafValue};
 use pair_classes::Meetings;
-use station_reader::Sequence;
+use sequence::Sequence;
 
 /// What an ascent is given beside the lists.
 #[derive(Drop)]

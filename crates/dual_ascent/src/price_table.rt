@@ -3,7 +3,7 @@ ghost use Rattle.std.specs.Prelude.{◌≡◌, length, slice_index};
 
 use crate::pairing::{Pairing, price_of};
 use pair_classes::Classes;
-use station_reader::Sequence;
+use sequence::Sequence;
 use std::alloc::{AllocError, Global};
 use transport::Cost;
 

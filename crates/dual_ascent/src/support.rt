@@ -1,5 +1,5 @@
 use crate::field::Field;
-use station_reader::Sequence;
+use sequence::Sequence;
 use std::alloc::{AllocError, Global};
 
 /// The parts that a train's choices are counted in.

@@ -9,7 +9,7 @@ use Rattle.std.proofs.lemmas.Bool.Decides.{Decides-int_eq}
 use Rattle.exact_lp.specs.declared.row.Row.{Row}
 use Rattle.exact_lp.specs.declared.row.RowCell.{RowCell}
 use Rattle.exact_lp.specs.Columns.{value_at}
-use Rattle.station_reader.specs.declared.part.Pattern.{Pattern}
+use Rattle.station.specs.declared.part.Pattern.{Pattern}
 use Rattle.patterns.specs.Allowed.{FitsBook, Lists, list_of}
 use Rattle.patterns.specs.Book.{pattern_at}
 use Rattle.pair_prices.specs.Case.{CaseRecord, IsCase}

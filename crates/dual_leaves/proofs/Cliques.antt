@@ -5,7 +5,7 @@ use Rattle.std.proofs.lemmas.Int.{ints}
 use Rattle.std.proofs.lemmas.Bool.{eq-eqb}
 use borrow.Author.Tests.{eqb-true}
 use Rattle.exact_lp.specs.declared.row.Row.{Row}
-use Rattle.station_reader.specs.declared.part.Pattern.{Pattern}
+use Rattle.station.specs.declared.part.Pattern.{Pattern}
 use Rattle.path_conflicts.specs.Minutes.{free_from, holds_platform}
 use Rattle.patterns.specs.Allowed.{list_of, FitsBook}
 use Rattle.pair_prices.specs.Case.{CaseRecord, IsCase}

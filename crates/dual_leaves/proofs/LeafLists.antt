@@ -9,7 +9,7 @@ use Rattle.std.specs.declared.cmp.Ordering.TheVariants.{Less, Equal, Greater}
 use Rattle.std.proofs.lemmas.Int.{ints}
 use Rattle.std.proofs.lemmas.Cmp.{ranked, int_ranked}
 use Rattle.std.proofs.lemmas.List.Elements.{All-weaker}
-use Rattle.station_reader.proofs.Lists.{every-at}
+use Rattle.station.proofs.Lists.{every-at}
 use Rattle.patterns.specs.Allowed.{list_of}
 use Rattle.pair_prices.specs.Case.{CaseRecord, IsCase}
 use Rattle.pattern_pricing.specs.Layout.{LayoutRecord}

@@ -9,7 +9,7 @@ use Rattle.std.proofs.lemmas.Int.{ints}
 use Rattle.std.proofs.lemmas.Bool.Decides.{Decides-int_eq}
 use Rattle.std.proofs.lemmas.List.Elements.{All-head, All-tail}
 use Rattle.std.proofs.lemmas.Map.Keys.{sorted_head, sorted_tail}
-use Rattle.station_reader.proofs.Lists.{Every, Rising, every-append, rising-append}
+use Rattle.station.proofs.Lists.{Every, Rising, every-append, rising-append}
 use Rattle.leaf_bounds.specs.Total.{only_if, total}
 use Rattle.leaf_bounds.proofs.Totals.{total-append}
 use Rattle.leaf_bounds.proofs.RisingLemmas.{Before}

@@ -7,9 +7,9 @@ use Rattle.std.specs.List.{All}
 use Rattle.std.specs.Map.{keys_of, values_of}
 use Rattle.std.proofs.lemmas.Int.{ints, clamps, by_lt_z}
 use Rattle.std.proofs.lemmas.List.Elements.{All-head, All-tail, All-weaker}
-use Rattle.station_reader.specs.Allowed.{numbers}
-use Rattle.station_reader.specs.declared.part.Pattern.{Pattern}
-use Rattle.station_reader.proofs.Lists.{Every, every-at}
+use Rattle.station.specs.Allowed.{numbers}
+use Rattle.station.specs.declared.part.Pattern.{Pattern}
+use Rattle.station.proofs.Lists.{Every, every-at}
 use Rattle.path_conflicts.specs.Minutes.{free_from, holds_platform, minutes}
 use Rattle.patterns.specs.Allowed.{Lists, list_of}
 use Rattle.patterns.specs.Book.{pattern_at, price_at}

@@ -3,7 +3,7 @@ use Rattle.std.specs.Prelude.{◌≡◌, ℕ, ◌<◌, ◌==◌, ◌&&◌, true,
 use Rattle.std.specs.Map.{keys_of, values_of}
 use Rattle.exact_lp.specs.declared.row.Row.{Row}
 use Rattle.exact_lp.specs.Columns.{value_at}
-use Rattle.station_reader.specs.declared.part.Pattern.{Pattern}
+use Rattle.station.specs.declared.part.Pattern.{Pattern}
 use Rattle.path_conflicts.specs.Minutes.{holds_platform}
 use Rattle.patterns.specs.Allowed.{list_of}
 use Rattle.patterns.specs.Book.{pattern_at}

@@ -2,7 +2,7 @@
 use Rattle.std.specs.Prelude.{◌≡◌, ℕ, Bool, List, length, All, ℤ, neg_ℤ, ◌+ℤ◌, ◌*ℤ◌}
 use Rattle.std.specs.Map.{keys_of}
 use Rattle.exact_lp.specs.declared.row.Row.{Row}
-use Rattle.station_reader.specs.Allowed.{numbers}
+use Rattle.station.specs.Allowed.{numbers}
 use Rattle.patterns.specs.Allowed.{list_of}
 use Rattle.pattern_pricing.specs.declared.column.PairAt.{PairAt}
 use Rattle.pattern_pricing.specs.Layout.{LayoutRecord, weight_column}

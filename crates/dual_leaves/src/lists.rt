@@ -8,7 +8,7 @@ ghost use Rattle.std.specs.Prelude.{◌≡◌, ◌++◌, pos, ◌<ℤ◌, IfOk, 
 use crate::divide::quotient;
 use crate::key::{MinuteKey, PairKey};
 use leaf_bounds::{MinuteValue, PairValue, TrainValue};
-use station_reader::Sequence;
+use sequence::Sequence;
 use std::alloc::{AllocError, Global};
 use std::collections::BTreeMap;
 

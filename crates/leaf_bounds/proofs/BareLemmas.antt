@@ -7,8 +7,8 @@ use Rattle.std.proofs.lemmas.Bool.{eqb-true, eqb-false}
 use Rattle.std.proofs.lemmas.Bool.Decides.{nat_tests}
 use Rattle.std.proofs.lemmas.List.Elements.{All-nil}
 use Rattle.std.proofs.lemmas.List.Sums.{sum_by-cons}
-use Rattle.station_reader.specs.Allowed.{numbers}
-use Rattle.station_reader.proofs.Lists.{Every, every-at}
+use Rattle.station.specs.Allowed.{numbers}
+use Rattle.station.proofs.Lists.{Every, every-at}
 use Rattle.patterns.specs.Book.{price_at}
 use Rattle.patterns.specs.Allowed.{Lists, list_of}
 use Rattle.patterns.proofs.Bounds.{all_from_places}

@@ -5,7 +5,7 @@ use Rattle.std.specs.Option.{option_or}
 use Rattle.std.specs.List.{flat_map, range_with_len}
 use Rattle.std.proofs.lemmas.List.Folds.{find-append, flat_map-map}
 use Rattle.std.proofs.lemmas.List.{drop_all}
-use Rattle.station_reader.specs.Allowed.{numbers}
+use Rattle.station.specs.Allowed.{numbers}
 use Rattle.pair_prices.specs.Trains.{TrainPair, pairs_with, train_pairs}
 
 found : {A : Type 0} (o r : Option A) → is_some o ≡ true → option_or o r ≡ o

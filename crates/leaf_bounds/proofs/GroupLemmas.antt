@@ -7,8 +7,8 @@ use Rattle.std.proofs.lemmas.Int.{ints}
 use Rattle.std.proofs.lemmas.Bool.{eq-eqb, eqb-true}
 use Rattle.std.proofs.lemmas.List.{map-append}
 use Rattle.std.proofs.lemmas.List.Elements.{filter-append}
-use Rattle.station_reader.specs.Allowed.{numbers}
-use Rattle.station_reader.proofs.Lists.{Every, Rising, every-at, every-filter, every-weaker, rising-filter}
+use Rattle.station.specs.Allowed.{numbers}
+use Rattle.station.proofs.Lists.{Every, Rising, every-at, every-filter, every-weaker, rising-filter}
 use Rattle.pair_prices.specs.Trains.{TrainPair, pairs_with, train_pairs}
 use Rattle.leaf_bounds.specs.declared.number.NumberValue.{NumberValue}
 use Rattle.leaf_bounds.specs.declared.number.PairValue.{PairValue}

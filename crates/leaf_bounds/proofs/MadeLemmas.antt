@@ -4,7 +4,7 @@ use Rattle.std.specs.Prelude.{Contains}
 use Rattle.std.specs.List.{All}
 use Rattle.std.proofs.lemmas.Int.{ints, clamps}
 use Rattle.std.proofs.lemmas.List.Elements.{All-nil, All-cons}
-use Rattle.station_reader.specs.Allowed.{numbers}
+use Rattle.station.specs.Allowed.{numbers}
 use Rattle.path_conflicts.specs.Minutes.{minutes, holds_platform}
 use Rattle.patterns.specs.Book.{price_at, pattern_at}
 use Rattle.patterns.specs.Allowed.{Lists, list_of}

@@ -4,8 +4,8 @@ use Rattle.std.specs.Prelude.{find, sum_by, unsigned_abs}
 use Rattle.std.specs.List.{flat_map, range_with_len}
 use Rattle.std.proofs.lemmas.Int.{ints, to_z-of_z}
 use Rattle.std.proofs.lemmas.List.Sums.{sum_by-cons}
-use Rattle.station_reader.specs.Allowed.{numbers}
-use Rattle.station_reader.specs.declared.part.Pattern.{Pattern}
+use Rattle.station.specs.Allowed.{numbers}
+use Rattle.station.specs.declared.part.Pattern.{Pattern}
 use Rattle.pair_prices.specs.Case.{CaseRecord, IsCase}
 use Rattle.pair_prices.specs.Pair.{are_forbidden, pair_price}
 use Rattle.pair_prices.specs.Plan.{chosen, platform_price}

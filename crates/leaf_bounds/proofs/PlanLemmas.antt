@@ -7,8 +7,8 @@ use Rattle.std.proofs.lemmas.Bool.{eq-eqb, eqb-true}
 use Rattle.std.proofs.lemmas.Bool.Decides.{nat_tests}
 use Rattle.std.specs.Ordering.{int_eq}
 use Rattle.std.proofs.lemmas.List.Elements.{All-contains, All-nil, All-weaker}
-use Rattle.station_reader.specs.Allowed.{numbers}
-use Rattle.station_reader.specs.declared.part.Pattern.{Pattern}
+use Rattle.station.specs.Allowed.{numbers}
+use Rattle.station.specs.declared.part.Pattern.{Pattern}
 use Rattle.path_conflicts.specs.Minutes.{minutes, free_from, headway_of, is_within}
 use Rattle.patterns.specs.Book.{pattern_at, price_at}
 use Rattle.patterns.specs.Allowed.{Lists, list_of}

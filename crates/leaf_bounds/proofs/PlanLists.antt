@@ -9,10 +9,10 @@ use Rattle.std.proofs.lemmas.List.Folds.{flat_map-map}
 use Rattle.std.proofs.lemmas.List.FromFn.{length-map-range_with_len}
 use Rattle.std.proofs.lemmas.List.Sums.{sum_by-le}
 use Rattle.std.proofs.lemmas.Nat.{mul-le}
-use Rattle.station_reader.specs.Allowed.{StationRecord, numbers}
-use Rattle.station_reader.specs.Station.{IsStation}
-use Rattle.station_reader.specs.declared.part.Platform.{Platform}
-use Rattle.station_reader.proofs.Lists.{Every, Rising, every-at}
+use Rattle.station.specs.Allowed.{StationRecord, numbers}
+use Rattle.station.specs.Station.{IsStation}
+use Rattle.station.specs.declared.part.Platform.{Platform}
+use Rattle.station.proofs.Lists.{Every, Rising, every-at}
 use Rattle.patterns.specs.Sound.{IsSound}
 use Rattle.patterns.proofs.SoundLemmas.{numbers_below}
 use Rattle.patterns.proofs.Steps.{flat_map_numbers_more}

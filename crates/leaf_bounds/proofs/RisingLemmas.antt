@@ -2,7 +2,7 @@
 use Rattle.std.proofs.Common.{ℕ, zero, suc, ◌+◌, ◌<◌, ◌≤◌, Bool, true, false, cond, List, [], ◌∷◌, refl, arith, ℤ, ◌≤ℤ◌, ◌<ℤ◌}
 use Rattle.std.specs.List.{filter, flat_map, range_with_len}
 use Rattle.std.proofs.lemmas.Int.{ints}
-use Rattle.station_reader.proofs.Lists.{Every, Rising, every-at, every-append, every-filter, every-weaker, rising-append, rising-at, rising-filter}
+use Rattle.station.proofs.Lists.{Every, Rising, every-at, every-append, every-filter, every-weaker, rising-append, rising-at, rising-filter}
 use Rattle.leaf_bounds.specs.Listed.{Ascends}
 use Rattle.leaf_bounds.proofs.PlaceLemmas.{ascends_tail, later}
 use Rattle.leaf_bounds.proofs.BoundedLemmas.{Each}

@@ -7,7 +7,7 @@ use Rattle.std.proofs.lemmas.Bool.{eqb-true}
 use Rattle.std.proofs.lemmas.Bool.Decides.{Decides-int_eq}
 use Rattle.std.proofs.lemmas.List.{drop_all, map-append, take_all, take_more}
 use Rattle.std.proofs.lemmas.List.Elements.{filter-append}
-use Rattle.station_reader.proofs.Lists.{Every, Rising, any-made, every-weaker}
+use Rattle.station.proofs.Lists.{Every, Rising, any-made, every-weaker}
 use Rattle.leaf_bounds.specs.declared.number.NumberValue.{NumberValue}
 use Rattle.leaf_bounds.specs.declared.leaf.Leaf.{Leaf}
 use Rattle.leaf_bounds.specs.declared.table.PotTable.{PotTable}

@@ -7,8 +7,8 @@ use Rattle.std.proofs.lemmas.Int.{ints}
 use Rattle.std.proofs.lemmas.Bool.{cases_lt, eq-eqb, ne_eqb}
 use Rattle.std.proofs.lemmas.Bool.Decides.{nat_tests}
 use Rattle.std.proofs.lemmas.List.Elements.{All-weaker}
-use Rattle.station_reader.specs.Allowed.{numbers, StationRecord}
-use Rattle.station_reader.specs.declared.part.Pattern.{Pattern}
+use Rattle.station.specs.Allowed.{numbers, StationRecord}
+use Rattle.station.specs.declared.part.Pattern.{Pattern}
 use Rattle.path_conflicts.specs.declared.held.Held.{Held}
 use Rattle.path_conflicts.specs.Minutes.{minute_count, minutes, is_within, free_from, holds_platform}
 use Rattle.pair_prices.specs.Case.{CaseRecord}

@@ -7,7 +7,7 @@ use Rattle.std.proofs.lemmas.List.Sums.{sum_by-cons}
 use Rattle.std.proofs.lemmas.List.Elements.{All-head, All-tail, All-weaker}
 use Rattle.std.proofs.lemmas.Bool.{cases_lt, eq-eqb, ne_eqb}
 use borrow.Author.Differences.{up, down, same_in, product_is, sum_is_lem}
-use Rattle.station_reader.specs.Allowed.{numbers}
+use Rattle.station.specs.Allowed.{numbers}
 use Rattle.patterns.proofs.Steps.{numbers_more}
 use Rattle.patterns.proofs.SoundLemmas.{numbers_below}
 use Rattle.leaf_bounds.specs.Total.{only_if, total}

@@ -4,7 +4,7 @@ use Rattle.std.specs.Prelude.{unsigned_abs, int_lt, int_le, ◌^◌}
 use Rattle.std.specs.Int.{int_max}
 use Rattle.std.proofs.lemmas.Int.{ints, clamps, to_z-of_z, fits_signed_from_abs}
 use Rattle.std.proofs.lemmas.Nat.{mul-le}
-use Rattle.station_reader.specs.Allowed.{numbers}
+use Rattle.station.specs.Allowed.{numbers}
 use lib.Signed.{lt_z, le_z}
 use mir.Syntax.{w128}
 use mir.Val.{SFits, to_z, of_z}

@@ -1,6 +1,6 @@
 -- Lists of leaves as they are made: a number for each train, in order.
 use Rattle.std.specs.Prelude.{ℕ, ◌==◌, if◌then◌else◌, List, [], ◌∷◌, flat_map, pos}
-use Rattle.station_reader.specs.Allowed.{numbers}
+use Rattle.station.specs.Allowed.{numbers}
 use Rattle.leaf_bounds.specs.declared.number.TrainValue.{TrainValue}
 use Rattle.leaf_bounds.specs.Listed.{Ascends, IsTrainValue}
 use Rattle.std.specs.Prelude.{◌≡◌, Some, slice_get}

@@ -1,6 +1,6 @@
 -- The parts of the leaf of one plan: what each train pays, and what platforms and pairs are paid.
 use Rattle.std.specs.Prelude.{◌≡◌, ℕ, ◌+◌, ◌==◌, Bool, false, if◌then◌else◌, List, [], ◌∷◌, length, find, flat_map, sum_by, slice_index, Option, Some, None, ℤ, pos}
-use Rattle.station_reader.specs.Allowed.{numbers}
+use Rattle.station.specs.Allowed.{numbers}
 use Rattle.patterns.specs.Book.{price_at}
 use Rattle.pair_prices.specs.Case.{CaseRecord}
 use Rattle.pair_prices.specs.Plan.{chosen, platform_price}

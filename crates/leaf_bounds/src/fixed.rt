@@ -14,7 +14,8 @@ use crate::places::PairNumber;
 use crate::value::price_of_platform;
 use pair_prices::Case;
 use patterns::Allowed;
-use station_reader::{Pattern, Sequence};
+use sequence::Sequence;
+use station::Pattern;
 use std::alloc::{AllocError, Global};
 
 /// The leaf of lists with one member each. Its value is the cost of their plan where that is feasible, and it is empty

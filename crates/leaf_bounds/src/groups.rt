@@ -10,7 +10,7 @@ use crate::number::{NumberValue, PairValue};
 use crate::pairs::{Places, places_from};
 use crate::places::{PairNumber, place_from};
 use crate::table::PotTable;
-use station_reader::Sequence;
+use sequence::Sequence;
 use std::alloc::{AllocError, Global};
 
 /// There are at most so many trains.

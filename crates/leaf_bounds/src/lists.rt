@@ -2,7 +2,7 @@ ghost use Rattle.patterns.specs.Allowed.{list_of};
 ghost use Rattle.std.specs.Prelude.{◌≡◌, ◌<◌, length, IfOk};
 
 use patterns::Allowed;
-use station_reader::Sequence;
+use sequence::Sequence;
 use std::alloc::{AllocError, Global};
 
 /// A list with the same elements.

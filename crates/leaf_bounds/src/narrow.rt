@@ -13,7 +13,7 @@ use crate::number::PairValue;
 use crate::potentials::{Side, train_at};
 use pair_prices::Case;
 use patterns::Allowed;
-use station_reader::Sequence;
+use sequence::Sequence;
 use std::alloc::{AllocError, Global};
 
 /// The leaf without its numbers at patterns that aren't in narrower lists. It stands for these with the same value.

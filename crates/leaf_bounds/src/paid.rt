@@ -5,7 +5,7 @@ ghost use Rattle.std.specs.Prelude.{◌≡◌, ◌*◌, ◌<◌, ◌≤◌, ◌^
 
 use crate::value::price_of_platform;
 use pair_prices::Case;
-use station_reader::Pattern;
+use station::Pattern;
 
 /// The pattern that the plan gives the train.
 pub(crate) fn chosen_of(case: &Case, plan: &[u16], train: u16) -> Pattern

@@ -4,7 +4,7 @@ ghost use Rattle.leaf_bounds.specs.Total.{only_if};
 ghost use Rattle.std.specs.Prelude.{◌≡◌, ℕ, ◌+◌, ◌*◌, ◌<◌, ◌≤◌, false, length, pos, slice_get};
 
 use crate::number::PairValue;
-use station_reader::Sequence;
+use sequence::Sequence;
 
 /// A pattern of one train of a pair.
 #[derive(Clone, Copy, Drop)]

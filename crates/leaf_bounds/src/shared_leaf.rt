@@ -12,7 +12,7 @@ use crate::shared::{SharedLeaf, SharedNode};
 use crate::table::PotTable;
 use crate::tree::Node;
 use crate::uses::{TablePair, UseOf};
-use station_reader::Sequence;
+use sequence::Sequence;
 use std::alloc::{AllocError, Global};
 
 /// The nodes, their leaves with uses of the tables.

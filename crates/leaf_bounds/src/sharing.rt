@@ -9,7 +9,7 @@ use crate::shared::SharedTree;
 use crate::shared_leaf::shared_nodes;
 use crate::table::PotTable;
 use crate::tree::{Node, Tree};
-use station_reader::Sequence;
+use sequence::Sequence;
 use std::alloc::{AllocError, Global};
 
 /// There are at most so many tables.

@@ -5,7 +5,7 @@ ghost use Rattle.leaf_bounds.specs.Total.{total};
 ghost use Rattle.leaf_bounds.specs.Verdict.{answer_of};
 ghost use Rattle.pair_prices.specs.Plan.{platform_price};
 ghost use Rattle.pair_prices.specs.Top.{top_of};
-ghost use Rattle.station_reader.specs.Allowed.{numbers};
+ghost use Rattle.station.specs.Allowed.{numbers};
 ghost use Rattle.std.specs.Prelude.{◌≡◌, ◌*◌, ◌<◌, ◌≤◌, ◌^◌, ◌≤ℤ◌, length, pos, unsigned_abs};
 
 use crate::check::LeafValue;

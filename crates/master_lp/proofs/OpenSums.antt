@@ -4,7 +4,7 @@ use Rattle.std.specs.List.{All}
 use Rattle.std.proofs.lemmas.Int.{ints}
 use Rattle.std.proofs.lemmas.Bool.{eqb-true}
 use Rattle.std.proofs.lemmas.List.Elements.{All-cons, All-head, All-nil, All-tail, All-weaker}
-use Rattle.station_reader.specs.Allowed.{numbers}
+use Rattle.station.specs.Allowed.{numbers}
 use Rattle.exact_lp.specs.declared.point.ColumnWeight.{ColumnWeight}
 use Rattle.exact_lp.specs.declared.point.Point.{Point}
 use Rattle.exact_lp.specs.declared.row.Row.{Row}

@@ -3,7 +3,7 @@ use Rattle.std.proofs.Common.{◌≡◌, ℕ, zero, suc, ◌+◌, ◌<◌, ◌�
 use Rattle.std.specs.List.{All}
 use Rattle.std.proofs.lemmas.Int.{ints}
 use Rattle.std.proofs.lemmas.List.Elements.{All-head, All-tail}
-use Rattle.station_reader.specs.Allowed.{numbers}
+use Rattle.station.specs.Allowed.{numbers}
 use Rattle.ratio.proofs.Ring.{add-mul_ℤ, mul-add_ℤ}
 use Rattle.exact_lp.proofs.Order.{mul_le_ℤ}
 use Rattle.transport.specs.declared.TableCell.{TableCell}

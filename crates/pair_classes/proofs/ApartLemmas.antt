@@ -4,10 +4,10 @@ use Rattle.std.specs.Prelude.{sum_by, is_some, slice_get, int_le, int_lt}
 use Rattle.std.proofs.lemmas.Bool.{eqb-true}
 use Rattle.std.proofs.lemmas.Bool.Decides.{nat_tests}
 use Rattle.std.proofs.lemmas.Int.{ints, clamps}
-use Rattle.station_reader.specs.Allowed.{StationRecord}
-use Rattle.station_reader.specs.declared.part.PathWay.{PathWay}
-use Rattle.station_reader.specs.declared.part.PathWay.TheVariants.{In, Out}
-use Rattle.station_reader.specs.declared.part.Pattern.{Pattern}
+use Rattle.station.specs.Allowed.{StationRecord}
+use Rattle.station.specs.declared.part.PathWay.{PathWay}
+use Rattle.station.specs.declared.part.PathWay.TheVariants.{In, Out}
+use Rattle.station.specs.declared.part.Pattern.{Pattern}
 use Rattle.path_conflicts.specs.declared.held.Held.{Held}
 use Rattle.path_conflicts.specs.Meeting.{common_minutes}
 use Rattle.path_conflicts.specs.Minutes.{free_from, path_used}

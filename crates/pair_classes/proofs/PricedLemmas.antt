@@ -7,9 +7,9 @@ use Rattle.std.proofs.lemmas.List.FromFn.{get_or-range_with_len, length-range_wi
 use Rattle.std.proofs.lemmas.List.Elements.{All-head, All-map, All-tail}
 use Rattle.std.proofs.lemmas.Nat.{mul-le}
 use Rattle.std.proofs.lemmas.Int.{ints}
-use Rattle.station_reader.specs.Allowed.{numbers}
+use Rattle.station.specs.Allowed.{numbers}
 use Rattle.patterns.specs.Book.{offers_of, pattern_at}
-use Rattle.station_reader.specs.declared.part.Pattern.{Pattern}
+use Rattle.station.specs.declared.part.Pattern.{Pattern}
 use Rattle.patterns.proofs.SoundLemmas.{flat_within}
 use Rattle.pair_prices.specs.Case.{CaseRecord, IsCase}
 use Rattle.pair_prices.specs.Pair.{are_forbidden, pair_price}

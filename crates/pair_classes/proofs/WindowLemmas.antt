@@ -2,8 +2,8 @@
 use Rattle.std.proofs.Common.{◌≡◌, ℕ, ◌+◌, ◌<◌, List, [], ◌∷◌, ◌++◌, length, sym, ap, ◌∙◌, subst, arith, ◌⊎◌, inl, inr}
 use Rattle.std.proofs.lemmas.List.{get_or_append_left, get_or_push, length-append}
 use Rattle.std.proofs.lemmas.Int.{ints}
-use Rattle.station_reader.specs.Allowed.{StationRecord}
-use Rattle.station_reader.specs.declared.part.Pattern.{Pattern}
+use Rattle.station.specs.Allowed.{StationRecord}
+use Rattle.station.specs.declared.part.Pattern.{Pattern}
 use Rattle.path_conflicts.specs.declared.held.Held.{Held}
 use Rattle.patterns.specs.Book.{pattern_at}
 use Rattle.pair_prices.specs.Case.{CaseRecord}

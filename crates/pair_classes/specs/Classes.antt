@@ -1,6 +1,6 @@
 -- Classes of the patterns of two trains, and the prices of their pairs.
 use Rattle.std.specs.Prelude.{◌≡◌, ℕ, ◌+◌, ◌*◌, ◌<◌, ◌≤◌, List, length, slice_index, slice_index_or, map, All, ℤ, pos, ◌≤ℤ◌}
-use Rattle.station_reader.specs.Allowed.{numbers}
+use Rattle.station.specs.Allowed.{numbers}
 use Rattle.patterns.specs.Book.{offers_of, pattern_at}
 use Rattle.pair_prices.specs.Case.{CaseRecord}
 use Rattle.pair_prices.specs.Top.{sealed_price}

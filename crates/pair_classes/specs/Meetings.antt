@@ -1,6 +1,6 @@
 -- The pairs of trains that can meet.
 use Rattle.std.specs.Prelude.{◌≡◌, ℕ, ◌+◌, ◌*◌, ◌<◌, Bool, false, ◌&&◌, ◌||◌, ◌==◌, List, length, filter, find, slice_get, Option, Some, None, All, AllPairs}
-use Rattle.station_reader.specs.Allowed.{numbers}
+use Rattle.station.specs.Allowed.{numbers}
 use Rattle.patterns.specs.Book.{offers_of}
 use Rattle.pair_prices.specs.Case.{CaseRecord}
 use Rattle.pair_classes.specs.Classes.{ClassTable, ArePriced, sealed_at}

@@ -1,8 +1,8 @@
 -- The minutes within which a train can meet another: a span round all that its patterns hold, wished buffers included.
 use Rattle.std.specs.Prelude.{◌≡◌, ℕ, ◌<◌, length, Bool, ◌||◌, Some, slice_get, List, slice_index_or, pos, ◌+ℤ◌, ◌≤ℤ◌, int_le}
-use Rattle.station_reader.specs.Allowed.{StationRecord}
-use Rattle.station_reader.specs.declared.part.PathWay.{PathWay}
-use Rattle.station_reader.specs.declared.part.Pattern.{Pattern}
+use Rattle.station.specs.Allowed.{StationRecord}
+use Rattle.station.specs.declared.part.PathWay.{PathWay}
+use Rattle.station.specs.declared.part.Pattern.{Pattern}
 use Rattle.path_conflicts.specs.declared.held.Held.{Held}
 use Rattle.path_conflicts.specs.Minutes.{free_from, path_used}
 use Rattle.patterns.specs.Book.{offers_of, pattern_at}

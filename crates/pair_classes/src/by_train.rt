@@ -3,7 +3,7 @@ ghost use Rattle.pair_classes.specs.Meetings.{is_with, places_with};
 ghost use Rattle.std.specs.Prelude.{◌≡◌, ℕ, ◌<◌, ◌^◌, ◌++◌, [], ◌∷◌, if◌then◌else◌, length, slice_index_or, IfOk, OnOk, Some};
 
 use crate::meeting::Meeting;
-use station_reader::Sequence;
+use sequence::Sequence;
 use std::alloc::{AllocError, Global};
 
 /// For each of so many trains the places of its pairs, ascending.

@@ -5,7 +5,7 @@ ghost use Rattle.pair_classes.specs.Groups.{line_at};
 ghost use Rattle.std.specs.Prelude.{◌≡◌, ◌≢◌, ◌<◌, ◌≤◌, length, flat_map, pos, slice_index_or, All, IfOk};
 
 use pair_prices::Case;
-use station_reader::Sequence;
+use sequence::Sequence;
 use std::alloc::{AllocError, Global};
 
 /// For each pattern of the second train its prices beside all patterns of the first.

@@ -2,7 +2,7 @@
 ghost use Rattle.pair_classes.specs.Groups.{AreGroups, Joins, line_at};
 ghost use Rattle.std.specs.Prelude.{◌≡◌, ◌≢◌, ℕ, ◌<◌, ◌≤◌, length, slice_index, All, IfOk};
 
-use station_reader::Sequence;
+use sequence::Sequence;
 use std::alloc::{AllocError, Global};
 
 /// The class of each line, and for each class the number of the first line of it.

@@ -11,7 +11,7 @@ use crate::places::Places;
 use crate::window::windows;
 use pair_prices::Case;
 use path_conflicts::Held;
-use station_reader::Sequence;
+use sequence::Sequence;
 use std::alloc::{AllocError, Global};
 use std::marker::Model;
 

@@ -5,12 +5,12 @@ ghost use Rattle.patterns.specs.Sound.{IsSound};
 ghost use Rattle.pair_prices.specs.Pair.{buffer_of};
 ghost use Rattle.pair_prices.specs.Spans.{path_span};
 ghost use Rattle.pair_classes.specs.Windows.{AreWindows, Covers, CoversTrain, Encloses, are_apart, buffered_span};
-ghost use Rattle.station_reader.specs.Shown.{record_of};
+ghost use Rattle.station.specs.Shown.{record_of};
 ghost use Rattle.std.specs.Prelude.{◌≡◌, ℕ, ◌<◌, ◌≤◌, length, pos, slice_get, IfOk, Some};
 
 use pair_prices::{Case, held_path, held_platform, path_of};
 use path_conflicts::Held;
-use station_reader::{PathWay, Pattern, Station};
+use station::{PathWay, Pattern, Station};
 use std::alloc::{AllocError, Global};
 
 /// For each train the span from its first held minute to its last, wished buffers included.

@@ -2,7 +2,7 @@
 use Rattle.std.proofs.Common.{◌≡◌, ℕ, ◌<◌, ◌≤◌, Bool, true, false, cond, ◌&&◌, min, refl, arith}
 use Rattle.std.specs.Prelude.{nat_lt}
 use borrow.Author.Tests.{lt-ltb, le-ltb}
-use Rattle.station_reader.specs.declared.part.Pattern.{Pattern}
+use Rattle.station.specs.declared.part.Pattern.{Pattern}
 use Rattle.patterns.specs.Allowed.{Lists}
 use Rattle.pair_prices.specs.Case.{CaseRecord, IsCase}
 use Rattle.pair_prices.specs.Pair.{are_forbidden, pair_price}

@@ -1,4 +1,4 @@
-use station_reader::Sequence;
+use sequence::Sequence;
 
 /// A number for each choice of two trains, in price units, at most 10^15 in size. At two patterns the numbers are together
 /// at most the sealed price, and where a train is left out at most 0: `docs/PROOFS.md`, "Fractional plans".

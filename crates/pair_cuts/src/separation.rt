@@ -9,7 +9,7 @@ use crate::cut::{CutFault, PairCut};
 use crate::potentials::{least_value, small_potentials};
 use pair_prices::Case;
 use patterns::{Allowed, Weights};
-use station_reader::Sequence;
+use sequence::Sequence;
 use std::alloc::{AllocError, Global};
 use transport::Coupled;
 

@@ -3,7 +3,7 @@ ghost use Rattle.pair_prices.specs.Pair.{pair_of};
 ghost use Rattle.pair_prices.specs.Plan.{cost, IsFeasible};
 ghost use Rattle.pair_prices.specs.Top.{sealed_price, top_of};
 ghost use Rattle.patterns.specs.Book.{offers_of, pattern_at, price_at};
-ghost use Rattle.station_reader.specs.Shown.{record_of};
+ghost use Rattle.station.specs.Shown.{record_of};
 ghost use Rattle.std.specs.Prelude.{◌≡◌, ◌≢◌, ℕ, List, ◌+◌, ◌<◌, ◌≤◌, length, pos, IfOk};
 
 use crate::pair::Pair;
@@ -11,7 +11,7 @@ use crate::top::{greatest_prices, price_of, top_price};
 use crate::verdict::verdict;
 use path_conflicts::Conflicts;
 use patterns::Book;
-use station_reader::Station;
+use station::Station;
 use std::alloc::{AllocError, Global};
 use std::marker::Model;
 
@@ -32,7 +32,7 @@ pub struct Case {
 impl Model for Case {
     ghost use Rattle.pair_prices.specs.Case.{CaseRecord};
     ghost use Rattle.pair_prices.specs.Kept.{IsKept};
-    ghost use Rattle.station_reader.specs.Shown.{record_of};
+    ghost use Rattle.station.specs.Shown.{record_of};
 
     ghost Value = { CaseRecord };
 

@@ -5,11 +5,11 @@ ghost use Rattle.path_conflicts.specs.Table.{IsTableOf};
 ghost use Rattle.patterns.specs.Sound.{IsSound};
 ghost use Rattle.pair_prices.specs.Overlaps.{AreOverlaps};
 ghost use Rattle.pair_prices.specs.Spans.{path_span, platform_span};
-ghost use Rattle.station_reader.specs.Shown.{record_of};
+ghost use Rattle.station.specs.Shown.{record_of};
 ghost use Rattle.std.specs.Prelude.{◌≡◌, ◌≤◌, pos, slice_get};
 
 use path_conflicts::{Conflicts, Held, meet_minutes};
-use station_reader::{PathWay, Pattern, Station};
+use station::{PathWay, Pattern, Station};
 
 /// For how many minutes each path use of one pattern overlaps each of another: 0 where the paths aren't incompatible.
 #[derive(Clone, Copy, Drop)]

@@ -1,4 +1,4 @@
-use station_reader::PathWay;
+use station::PathWay;
 
 /// Two path uses that overlap for more minutes than the threshold: the ways of the first and of the second pattern, and the
 /// minutes of the overlap.

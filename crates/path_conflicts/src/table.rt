@@ -1,10 +1,10 @@
 ghost use Rattle.path_conflicts.specs.Overlap.{is_pair_of, are_incompatible};
 ghost use Rattle.path_conflicts.specs.Table.{IsTableOf, is_marked, mark_at};
-ghost use Rattle.station_reader.specs.Shown.{record_of};
+ghost use Rattle.station.specs.Shown.{record_of};
 ghost use Rattle.std.specs.List.{list_any};
 ghost use Rattle.std.specs.Prelude.{◌≡◌, ℕ, ◌*◌, ◌<◌, ◌≤◌, ◌==◌, ◌&&◌, ◌||◌, false, length, IfOk};
 
-use station_reader::{PathPair, Station};
+use station::{PathPair, Station};
 use std::alloc::{AllocError, Global};
 use std::marker::Model;
 

@@ -2,7 +2,7 @@
 use Rattle.std.proofs.Common.{ℕ, zero, suc, ◌<◌, ◌≤◌, List, [], ◌∷◌, length, get_or, arith}
 use Rattle.std.specs.Prelude.{sum_by, slice_get, slice_index, slice_index_or}
 use Rattle.std.proofs.lemmas.List.Sums.{sum_by-cons}
-use Rattle.station_reader.specs.declared.part.Platform.{Platform}
+use Rattle.station.specs.declared.part.Platform.{Platform}
 use Rattle.patterns.specs.declared.offer.Offer.{Offer}
 use Rattle.patterns.specs.Book.{Offers, offers_of, no_offer, price_at}
 use Rattle.pair_prices.specs.Case.{CaseRecord}

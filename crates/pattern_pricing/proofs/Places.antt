@@ -5,7 +5,7 @@ use Rattle.std.proofs.lemmas.List.{length-append, length-map}
 use Rattle.std.proofs.lemmas.List.FromFn.{length-map-range_with_len}
 use Rattle.std.proofs.lemmas.Option.{slice_get-map, slice_get-get_or, get_or_from_slice_get}
 use Rattle.std.specs.Option.{option_map}
-use Rattle.station_reader.specs.Allowed.{numbers}
+use Rattle.station.specs.Allowed.{numbers}
 use Rattle.pair_prices.specs.Case.{CaseRecord}
 use Rattle.pair_prices.specs.Trains.{TrainPair, pairs_with, train_pairs}
 use Rattle.pair_prices.proofs.TopLemmas.{sum_by_same, sum_numbers_more}

@@ -1,6 +1,6 @@
 -- What a layout keeps beside its lists.
 use Rattle.std.specs.Prelude.{◌≡◌, ℕ, ◌+◌, ◌<◌, ◌≤◌, List, length, slice_index, sum_by}
-use Rattle.station_reader.specs.Allowed.{numbers}
+use Rattle.station.specs.Allowed.{numbers}
 use Rattle.pattern_pricing.specs.Layout.{LayoutRecord}
 use Rattle.pattern_pricing.specs.Positions.{list_size, later_trains}
 

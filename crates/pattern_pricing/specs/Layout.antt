@@ -1,6 +1,6 @@
 -- The columns of the bound of a node, as one list. A column's number is its place there, from 0.
 use Rattle.std.specs.Prelude.{ℕ, ◌<◌, List, ◌++◌, length, map, flat_map}
-use Rattle.station_reader.specs.Allowed.{numbers}
+use Rattle.station.specs.Allowed.{numbers}
 use Rattle.patterns.specs.Allowed.{Lists, list_of}
 use Rattle.pair_prices.specs.Fraction.{places}
 use Rattle.pair_prices.specs.Trains.{TrainPair, train_pairs}

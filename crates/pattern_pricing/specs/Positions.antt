@@ -1,6 +1,6 @@
 -- Where columns stand, by sums.
 use Rattle.std.specs.Prelude.{ℕ, ◌+◌, ◌-◌, length, sum_by}
-use Rattle.station_reader.specs.Allowed.{numbers}
+use Rattle.station.specs.Allowed.{numbers}
 use Rattle.patterns.specs.Allowed.{list_of}
 use Rattle.pattern_pricing.specs.declared.column.Column.{Column}
 use Rattle.pattern_pricing.specs.declared.column.Column.TheVariants.{Weight, LeftOut, PlatformUse, PairValue}

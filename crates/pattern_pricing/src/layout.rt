@@ -8,7 +8,7 @@ use crate::column::{Column, PairAt, WeightAt};
 use crate::starts::{pair_starts_of, part_at, starts_of};
 use pair_prices::Case;
 use patterns::Allowed;
-use station_reader::Sequence;
+use sequence::Sequence;
 use std::alloc::{AllocError, Global};
 use std::marker::Model;
 

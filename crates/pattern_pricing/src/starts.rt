@@ -2,7 +2,7 @@ ghost use Rattle.pattern_pricing.specs.Kept.{AreStarts};
 ghost use Rattle.std.specs.Prelude.{◌≡◌, ℕ, ◌+◌, ◌-◌, ◌<◌, ◌≤◌, length, slice_index, IfOk};
 ghost use Rattle.patterns.specs.Allowed.{list_of};
 
-use station_reader::Sequence;
+use sequence::Sequence;
 use std::alloc::{AllocError, Global};
 
 /// The numbers of entries in the lists before each list, and in all.

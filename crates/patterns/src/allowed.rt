@@ -1,11 +1,11 @@
 ghost use Rattle.patterns.specs.declared.offer.Offer.{Offer};
 ghost use Rattle.patterns.specs.Allowed.{FitsBook, full_lists, part_below, part_from, with_list};
 ghost use Rattle.patterns.specs.Split.{IsSplit, PartsFit, SplitFails};
-ghost use Rattle.station_reader.specs.Allowed.{numbers};
+ghost use Rattle.station.specs.Allowed.{numbers};
 ghost use Rattle.std.specs.Prelude.{◌≡◌, ◌<◌, ◌≤◌, List, length, IfOk, MatchResult};
 
 use crate::book::Book;
-use station_reader::Sequence;
+use sequence::Sequence;
 use std::alloc::{AllocError, Global};
 
 /// For each train the numbers of the patterns that it may still take, strictly ascending.

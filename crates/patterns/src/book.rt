@@ -1,9 +1,9 @@
 ghost use Rattle.patterns.specs.Book.{IsBook, offers_of, pattern_at, price_at, raised, rule_book};
-ghost use Rattle.station_reader.specs.Shown.{record_of};
+ghost use Rattle.station.specs.Shown.{record_of};
 ghost use Rattle.std.specs.Prelude.{◌≡◌, ◌+◌, ◌<◌, ◌≤◌, length, pos, IfOk};
 
 use crate::row::Row;
-use station_reader::{Pattern, Station};
+use station::{Pattern, Station};
 use std::alloc::{AllocError, Global};
 use std::marker::Model;
 

@@ -1,10 +1,10 @@
 ghost use Rattle.patterns.specs.Price.{off_price, path_price, price_for, rule_price, shifted_minutes, surcharge_price};
-ghost use Rattle.station_reader.specs.Shown.{record_of};
-ghost use Rattle.station_reader.specs.Station.{IsTrain};
+ghost use Rattle.station.specs.Shown.{record_of};
+ghost use Rattle.station.specs.Station.{IsTrain};
 ghost use Rattle.std.specs.List.{list_any};
 ghost use Rattle.std.specs.Prelude.{◌≡◌, ◌<◌, ◌*◌, ◌^◌, ◌==◌, find, length, pos, slice_get};
 
-use station_reader::{Pattern, Station, Surcharge, Train};
+use station::{Pattern, Station, Surcharge, Train};
 
 /// What the pattern costs the train by the rules: `docs/RULES.md`, "The price of a pattern". It takes no memory.
 pub fn price(station: &Station, train: usize, pattern: &Pattern) -> i64

@@ -1,10 +1,10 @@
 ghost use Rattle.patterns.specs.Products.{allowed_for, at_arrival, at_arrival_path, at_paths, at_platform, is_choice, may_stop, pattern_with, products, way_choices};
-ghost use Rattle.station_reader.specs.Allowed.{allowed_list, leads, same_way};
-ghost use Rattle.station_reader.specs.Shown.{record_of};
-ghost use Rattle.station_reader.specs.Station.{IsTrain};
+ghost use Rattle.station.specs.Allowed.{allowed_list, leads, same_way};
+ghost use Rattle.station.specs.Shown.{record_of};
+ghost use Rattle.station.specs.Station.{IsTrain};
 ghost use Rattle.std.specs.Prelude.{◌≡◌, [], ◌∷◌, ◌++◌, ◌<◌, ◌≤◌, ◌≤ℤ◌, ◌+ℤ◌, ◌-ℤ◌, if◌then◌else◌, flat_map, int_le, length, neg_ℤ, pos, slice_get, IfOk, OnOk};
 
-use station_reader::{PathWay, Pattern, Station, Train};
+use station::{PathWay, Pattern, Station, Train};
 use std::alloc::{AllocError, Global};
 
 /// All patterns that the rules allow the train, ascending by platform, paths (none first) and minutes; a pattern's number

@@ -1,4 +1,4 @@
-use station_reader::Sequence;
+use sequence::Sequence;
 
 /// Weights over one scale, aligned with lists of allowed numbers and with the platforms: how much of each pattern a
 /// fractional plan takes.

@@ -1,7 +1,7 @@
 -- What the bytes of a plan file are read as.
 use Rattle.std.specs.Prelude.{◌≡◌, ℕ, zero, suc, ◌+◌, ◌==◌, nat_lt, if◌then◌else◌, List, [], ◌∷◌, ◌++◌, map, length, Option, Some, None, Result, Ok, Err, ⊤}
 use Rattle.std.specs.Option.{option_map}
-use Rattle.station_reader.specs.Allowed.{numbers}
+use Rattle.station.specs.Allowed.{numbers}
 use Rattle.patterns.specs.Book.{offers_of}
 use Rattle.pair_prices.specs.Case.{CaseRecord}
 use Rattle.plan_cost.specs.declared.plan.Plan.{Plan}

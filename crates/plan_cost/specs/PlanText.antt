@@ -1,7 +1,7 @@
 -- The text of a plan: its records, each as a line.
 use Rattle.std.specs.Prelude.{◌≡◌, ℕ, ◌<◌, ◌≤◌, List, [], ◌∷◌, ◌++◌, map, flat_map, length, slice_index, codes, pos}
 use Rattle.record_table.specs.Line.{line}
-use Rattle.station_reader.specs.Allowed.{numbers}
+use Rattle.station.specs.Allowed.{numbers}
 use Rattle.plan_cost.specs.declared.record.PlanRecord.{PlanRecord}
 use Rattle.plan_cost.specs.declared.record.PlanRecord.TheVariants.{Header, Choice, End}
 

@@ -19,6 +19,3 @@ pub use reading::read_plan;
 pub use refusal::{PlanFault, PlanKind, PlanRefused};
 pub use verdict::{Clash, Costs, Verdict};
 pub use writing::write_plan;
-
-#[cfg(test)]
-mod tests;

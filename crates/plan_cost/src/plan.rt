@@ -3,7 +3,7 @@ ghost use Rattle.plan_cost.specs.PlanText.{IsWritable};
 ghost use Rattle.std.specs.Prelude.{◌≡◌, ◌↔◌, ◌<◌, length, slice_index, IsTrue};
 
 use pair_prices::Case;
-use station_reader::Sequence;
+use sequence::Sequence;
 
 /// One pattern number for each train.
 #[derive(Drop)]

@@ -10,7 +10,7 @@ use crate::plan::Plan;
 use crate::record::{PlanRecord, record_in};
 use crate::refusal::{PlanFault, PlanKind, PlanRefused};
 use pair_prices::Case;
-use station_reader::Sequence;
+use sequence::Sequence;
 use std::alloc::Global;
 
 /// A line has at most so many bytes before its newline.

@@ -7,10 +7,10 @@ use Rattle.std.proofs.lemmas.Bool.Decides.{nat_tests}
 use Rattle.std.proofs.lemmas.Int.{ints}
 use Rattle.std.proofs.lemmas.List.Folds.{list_any_at}
 use Rattle.std.proofs.lemmas.List.FromFn.{length-map-range_with_len, get_or-map-range_with_len}
-use Rattle.station_reader.specs.Allowed.{StationRecord, numbers}
-use Rattle.station_reader.specs.Station.{IsStation}
-use Rattle.station_reader.specs.declared.part.Platform.{Platform}
-use Rattle.station_reader.specs.declared.part.Pattern.{Pattern}
+use Rattle.station.specs.Allowed.{StationRecord, numbers}
+use Rattle.station.specs.Station.{IsStation}
+use Rattle.station.specs.declared.part.Platform.{Platform}
+use Rattle.station.specs.declared.part.Pattern.{Pattern}
 use Rattle.path_conflicts.specs.Minutes.{minute_count, minutes, is_within, headway_of, free_from, holds_platform}
 use Rattle.patterns.specs.Sound.{IsSound}
 use Rattle.pair_prices.specs.declared.pair.Why.TheVariants.{Platform as SamePlatform}

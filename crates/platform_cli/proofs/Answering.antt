@@ -6,7 +6,7 @@ use Rattle.std.specs.Option.{option_map, option_and_then}
 use Rattle.shelf.specs.Outside.{Same}
 use Rattle.command_words.specs.Command.{CommandView, SolveView, solve, check, cost, bound_all, patterns, platforms, paths, make, trial}
 use Rattle.station_reader.specs.declared.refusal.RefusedKind.{RefusedKind}
-use Rattle.station_reader.specs.Allowed.{StationRecord}
+use Rattle.station.specs.Allowed.{StationRecord}
 use Rattle.station_reader.specs.Reading.{Reading, taken, refused}
 use Rattle.pair_prices.specs.Case.{CaseRecord, rule_case}
 use Rattle.plan_cost.specs.PlanReading.{PlanReading, plan_reading, taken as plan_taken, refused as plan_refused}

@@ -4,7 +4,7 @@ use Rattle.std.specs.Prelude.{IsSome}
 use Rattle.std.specs.declared.option.Option.{Option}
 use Rattle.shelf.specs.Outside.{Same}
 use Rattle.command_words.specs.Command.{CheckView, check}
-use Rattle.station_reader.specs.Allowed.{StationRecord}
+use Rattle.station.specs.Allowed.{StationRecord}
 use Rattle.station_reader.specs.Reading.{Reading, taken}
 use Rattle.pair_prices.specs.Case.{CaseRecord, IsCase, rule_case}
 use Rattle.pair_prices.specs.Plan.{IsFeasible, cost}

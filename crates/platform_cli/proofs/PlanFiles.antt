@@ -13,7 +13,7 @@ use Rattle.leaf_bounds.specs.declared.tree.Bound.{Bound}
 use Rattle.leaf_bounds.specs.declared.tree.Bound.TheVariants.{AtLeast, Nothing}
 use Rattle.leaf_bounds.specs.Tree.{SplitTree}
 use Rattle.proof_file.specs.Accepted.{IsAccepted}
-use Rattle.station_reader.specs.Allowed.{StationRecord}
+use Rattle.station.specs.Allowed.{StationRecord}
 use Rattle.station_reader.specs.Reading.{taken}
 use Rattle.platform_cli.specs.Asked.{Writes, plan_file_of, proof_file_of}
 use Rattle.platform_cli.specs.Answers.{IsBoundTold}

@@ -3,7 +3,7 @@ use Rattle.std.specs.Prelude.{◌≡◌, ◌⊎◌, ℕ, Bool, List, Option, Non
 use Rattle.command_words.specs.Command.{CommandView, SolveView, CheckView, GeneratedView, solve, check, bound_all, patterns, make, trial}
 use Rattle.command_words.specs.Usage.{usage_text}
 use Rattle.station_reader.specs.declared.refusal.RefusedKind.{RefusedKind}
-use Rattle.station_reader.specs.Allowed.{StationRecord}
+use Rattle.station.specs.Allowed.{StationRecord}
 use Rattle.station_reader.specs.Reading.{taken, refused}
 use Rattle.pair_prices.specs.Case.{CaseRecord, rule_case}
 use Rattle.pair_prices.specs.Plan.{IsFeasible, cost}

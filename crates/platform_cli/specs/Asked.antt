@@ -2,7 +2,7 @@
 use Rattle.std.specs.Prelude.{◌≡◌, ◌⊎◌, ℕ, Bool, List, if◌then◌else◌, Option, None, Some}
 use Rattle.std.specs.Option.{option_map, option_and_then}
 use Rattle.command_words.specs.Command.{CommandView, ChartView, solve, check, cost, bound_all, patterns, platforms, paths}
-use Rattle.station_reader.specs.Allowed.{StationRecord}
+use Rattle.station.specs.Allowed.{StationRecord}
 use Rattle.station_reader.specs.Reading.{taken}
 use Rattle.diagram.specs.Text.{is_window}
 use Rattle.platform_cli.specs.declared.asked.Report.{Report}

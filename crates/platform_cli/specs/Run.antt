@@ -5,7 +5,7 @@ use Rattle.std.specs.Str.{bytes_eq}
 use Rattle.std.specs.Io.KnownBytes.{Appends, Keeps}
 use Rattle.shelf.specs.Outside.{AppendsPrefix, Same}
 use Rattle.command_words.specs.Command.{CommandView}
-use Rattle.station_reader.specs.Allowed.{StationRecord}
+use Rattle.station.specs.Allowed.{StationRecord}
 use Rattle.station_reader.specs.Reading.{taken}
 use Rattle.pair_prices.specs.Case.{rule_case}
 use Rattle.plan_cost.specs.PlanText.{plan_text}

@@ -3,7 +3,7 @@ use Rattle.std.specs.Prelude.{ℕ, List, map, string_bytes, Result, Ok, Err, Opt
 use Rattle.branching.specs.declared.found.Priced.{Priced}
 use Rattle.std.specs.Option.{option_map}
 use Rattle.station_reader.specs.Reading.{Reading, taken, refused}
-use Rattle.station_reader.specs.Shown.{record_of}
+use Rattle.station.specs.Shown.{record_of}
 use Rattle.pair_prices.specs.Case.{CaseRecord}
 use Rattle.pair_prices.specs.Plan.{Fits}
 use Rattle.plan_cost.specs.PlanReading.{PlanReading, taken as plan_taken, refused as plan_refused}

@@ -4,7 +4,7 @@ ghost use Rattle.branching.specs.RootLine.{IsRoot};
 ghost use Rattle.branching.specs.declared.found.Root.{Root as RootOf};
 ghost use Rattle.command_words.specs.Command.{bound_all};
 ghost use Rattle.shelf.specs.Outside.{Same};
-ghost use Rattle.station_reader.specs.Shown.{record_of};
+ghost use Rattle.station.specs.Shown.{record_of};
 ghost use Rattle.pair_prices.specs.Case.{rule_case};
 ghost use Rattle.platform_cli.specs.Given.{text_outcome};
 ghost use Rattle.platform_cli.specs.Outcome.{IsOutcome};
@@ -19,7 +19,7 @@ use branching::find_root;
 use pair_prices::Case;
 use ratio::Width;
 use shelf::Shelf;
-use station_reader::Station;
+use station::Station;
 use std::alloc::{AllocError, Global};
 
 /// Reads the instance, and bounds the cost of its plans.

@@ -3,7 +3,7 @@ ghost use Rattle.std.specs.Prelude.{◌≡◌, ◌⊎◌, ◌<◌, List, ℕ, So
 ghost use Rattle.std.specs.Option.{option_map};
 ghost use Rattle.command_words.specs.Command.{check};
 ghost use Rattle.shelf.specs.Outside.{Same};
-ghost use Rattle.station_reader.specs.Shown.{record_of};
+ghost use Rattle.station.specs.Shown.{record_of};
 ghost use Rattle.pair_prices.specs.Case.{IsCase, rule_case};
 ghost use Rattle.pair_prices.specs.Plan.{Fits, cost};
 ghost use Rattle.platform_cli.specs.Asked.{Reads};
@@ -27,7 +27,7 @@ use plan_cost::{Plan, Verdict, judge};
 use proof_file::texts_of_trees;
 use proof_rules::{ProofRefused, accepted_exactly};
 use shelf::Shelf;
-use station_reader::Station;
+use station::Station;
 use std::alloc::{AllocError, Global};
 
 /// Reads the instance, checks the proof, and judges the plan where one is named.

@@ -12,7 +12,8 @@ use crate::output::{Ending, Output, Stop};
 use crate::reading::read_whole;
 use crate::report::refused_text;
 use shelf::{Shelf, ShelfFault};
-use station_reader::{Refused, Station, StationFault, read_station};
+use station::Station;
+use station_reader::{Refused, StationFault, read_station};
 use std::alloc::{AllocError, Global};
 
 /// The most bytes that are read: one more than an instance may have, so that a longer one is refused.

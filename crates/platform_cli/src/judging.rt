@@ -2,7 +2,7 @@
 ghost use Rattle.std.specs.Prelude.{◌≡◌, ◌⊎◌, ◌<◌, List, ℕ, None, Some, Ok, IfOk, IsErrOf, Option};
 ghost use Rattle.command_words.specs.Command.{CommandView};
 ghost use Rattle.shelf.specs.Outside.{Same};
-ghost use Rattle.station_reader.specs.Shown.{record_of};
+ghost use Rattle.station.specs.Shown.{record_of};
 ghost use Rattle.pair_prices.specs.Case.{rule_case};
 ghost use Rattle.pair_prices.specs.Plan.{Fits, IsFeasible};
 ghost use Rattle.plan_cost.specs.Verdict.{costs_of};
@@ -23,7 +23,7 @@ use pair_prices::Case;
 use plan_cost::{Clash, Costs, Plan, PlanRefused, Verdict, judge};
 use reports::{conflict_report, cost_report, plan_refused_report, window_report};
 use shelf::Shelf;
-use station_reader::Station;
+use station::Station;
 use std::alloc::{AllocError, Global};
 
 /// Tests a chart's minutes, reads the instance and the plan, and reports what is asked for.

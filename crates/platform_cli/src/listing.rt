@@ -3,7 +3,7 @@ ghost use Rattle.std.specs.Prelude.{◌≡◌, ◌<◌, List, ℕ, Some, IfOk, I
 ghost use Rattle.command_words.specs.Command.{patterns};
 ghost use Rattle.reports.specs.Text.{patterns_text};
 ghost use Rattle.shelf.specs.Outside.{Same};
-ghost use Rattle.station_reader.specs.Shown.{record_of};
+ghost use Rattle.station.specs.Shown.{record_of};
 ghost use Rattle.pair_prices.specs.Case.{rule_case};
 ghost use Rattle.platform_cli.specs.Given.{text_outcome};
 ghost use Rattle.platform_cli.specs.Outcome.{IsOutcome};
@@ -14,7 +14,7 @@ use crate::output::{Ending, Output, Stop};
 use pair_prices::Case;
 use reports::patterns_report;
 use shelf::Shelf;
-use station_reader::Station;
+use station::Station;
 use std::alloc::{AllocError, Global};
 
 /// Reads the instance, and lists its patterns.

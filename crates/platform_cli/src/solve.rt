@@ -11,7 +11,7 @@ ghost use Rattle.leaf_bounds.specs.Tree.{SplitTree};
 ghost use Rattle.leaf_bounds.specs.declared.leaf.Leaf.{Leaf as LeafOf};
 ghost use Rattle.shared_trees.specs.Written.{IsShownBy};
 ghost use Rattle.shelf.specs.Outside.{Same};
-ghost use Rattle.station_reader.specs.Shown.{record_of};
+ghost use Rattle.station.specs.Shown.{record_of};
 ghost use Rattle.pair_prices.specs.Case.{rule_case};
 ghost use Rattle.pair_prices.specs.Plan.{Fits, IsFeasible, cost};
 ghost use Rattle.platform_cli.specs.Given.{NewFile};
@@ -32,7 +32,7 @@ use plan_cost::{Plan, write_plan};
 use ratio::Width;
 use shared_trees::written_proof;
 use shelf::Shelf;
-use station_reader::Station;
+use station::Station;
 use std::alloc::{AllocError, Global};
 
 /// Reads the instance, and searches for its plan of least cost.

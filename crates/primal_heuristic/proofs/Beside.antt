@@ -2,9 +2,9 @@
 use Rattle.std.proofs.Common.{◌≡◌, ℕ, ◌+◌, ◌*◌, ◌<◌, ◌≤◌, Bool, true, false, not, cond, List, length, refl, sym, ap, ◌∙◌, arith, Option, None, Some, ℤ}
 use Rattle.std.specs.Prelude.{sum_by, is_some}
 use Rattle.std.specs.List.{list_any}
-use Rattle.station_reader.specs.Allowed.{StationRecord, numbers}
-use Rattle.station_reader.specs.Station.{IsStation}
-use Rattle.station_reader.specs.declared.part.Pattern.{Pattern}
+use Rattle.station.specs.Allowed.{StationRecord, numbers}
+use Rattle.station.specs.Station.{IsStation}
+use Rattle.station.specs.declared.part.Pattern.{Pattern}
 use Rattle.pair_prices.specs.declared.pair.Why.{Why}
 use Rattle.pair_prices.specs.declared.pair.Pair.TheVariants.{Price, Forbidden}
 use Rattle.pair_prices.specs.Case.{CaseRecord}

@@ -1,6 +1,6 @@
 -- What is looked at while the greedy plan is made.
 use Rattle.std.specs.Prelude.{ℕ, ◌<◌, nat_le, if◌then◌else◌, List, length, slice_index, sum_by, Option, Some, None}
-use Rattle.station_reader.specs.Allowed.{numbers}
+use Rattle.station.specs.Allowed.{numbers}
 use Rattle.patterns.specs.Book.{offers_of}
 use Rattle.pair_prices.specs.Case.{CaseRecord}
 use Rattle.primal_heuristic.specs.declared.greedy_plan.Added.{Added}

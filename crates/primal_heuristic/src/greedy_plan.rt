@@ -6,7 +6,7 @@ ghost use Rattle.std.specs.Prelude.{◌≡◌, ◌<◌, length, IfOk};
 use crate::added::{pattern_price, platform_price, prices_beside};
 use pair_prices::Case;
 use plan_cost::Plan;
-use station_reader::Sequence;
+use sequence::Sequence;
 use std::alloc::{AllocError, Global};
 
 /// A pattern of the next train, and what it adds to the cost.

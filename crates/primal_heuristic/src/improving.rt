@@ -14,7 +14,7 @@ use pair_classes::Meetings;
 use pair_prices::Case;
 use patterns::Allowed;
 use plan_cost::{Plan, Verdict, judge};
-use station_reader::Sequence;
+use sequence::Sequence;
 use std::alloc::{AllocError, Global};
 
 /// How many rounds of searches there are at most. Each makes the plan cheaper.

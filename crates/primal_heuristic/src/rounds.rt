@@ -4,7 +4,7 @@ use crate::board::Board;
 use crate::openings::{neighbours, used};
 use crate::single_moves::moved;
 use plan_cost::{Plan, Verdict, judge};
-use station_reader::Sequence;
+use sequence::Sequence;
 use std::alloc::{AllocError, Global};
 use std::collections::HashSet;
 

@@ -8,7 +8,7 @@ use Rattle.std.specs.List.{AllByRecursion}
 use Rattle.std.specs.List.Sorted.{IsStrictlySortedBy}
 use Rattle.std.proofs.lemmas.Int.{ints}
 use Rattle.std.proofs.lemmas.Bool.Decides.{nat_tests}
-use Rattle.station_reader.proofs.Lists.{Every, Rising, every-at, every-filter, rising-filter}
+use Rattle.station.proofs.Lists.{Every, Rising, every-at, every-filter, rising-filter}
 use Rattle.patterns.proofs.Bounds.{all_from_places}
 use Rattle.patterns.specs.Allowed.{FitsBook, Lists, list_of}
 use Rattle.pair_prices.specs.Case.{CaseRecord}

@@ -14,7 +14,7 @@ use Rattle.std.proofs.lemmas.Bool.Decides.{nat_tests}
 use Rattle.std.proofs.lemmas.Map.{lookup-none}
 use Rattle.std.proofs.lemmas.Map.Entries.{none_below_head, place_from_lookup}
 use Rattle.std.proofs.lemmas.Map.Lookups.{exact_unsigned}
-use Rattle.station_reader.proofs.Lists.{Every, every-at}
+use Rattle.station.proofs.Lists.{Every, every-at}
 use Rattle.patterns.specs.Allowed.{Lists}
 use Rattle.pair_prices.specs.Trains.{TrainPair}
 use Rattle.leaf_bounds.specs.declared.number.PairValue.{PairValue}

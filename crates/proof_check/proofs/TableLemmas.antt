@@ -5,7 +5,7 @@ use Rattle.std.specs.Option.{option_map}
 use Rattle.std.proofs.lemmas.Option.{slice_get_within, slice_get-get_or}
 use Rattle.std.proofs.lemmas.Int.{ints}
 use Rattle.std.proofs.lemmas.Bool.Decides.{nat_tests}
-use Rattle.station_reader.proofs.Lists.{Every, every-at, every-append, rising-append}
+use Rattle.station.proofs.Lists.{Every, every-at, every-append, rising-append}
 use Rattle.patterns.specs.Book.{Offers, offers_of}
 use Rattle.leaf_bounds.specs.declared.number.NumberValue.{NumberValue}
 use Rattle.leaf_bounds.specs.Group.{Group}

@@ -20,7 +20,7 @@ use crate::tables::Tables;
 use leaf_bounds::{Leaf, MinuteValue, PairValue, TrainValue, UseOf};
 use pair_prices::Case;
 use proof_file::ProofRecord;
-use station_reader::Sequence;
+use sequence::Sequence;
 use std::alloc::{AllocError, Global};
 
 /// A leaf whose `close` is still to come.

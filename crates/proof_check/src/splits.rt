@@ -10,7 +10,7 @@ use crate::stop::Stop;
 use leaf_bounds::Cut;
 use patterns::{Allowed, Book};
 use proof_rules::ProofKind;
-use station_reader::Sequence;
+use sequence::Sequence;
 use std::alloc::{AllocError, Global};
 use std::mem;
 

@@ -6,7 +6,7 @@ use leaf_bounds::{
     Bound, Cut, Leaf, MinuteValue, Node, NumberValue, PotTable, SharedLeaf, SharedNode, SharedTree,
     TrainValue, Tree, UseOf,
 };
-use station_reader::Sequence;
+use sequence::Sequence;
 use std::alloc::{AllocError, Global};
 use std::test::Fail;
 

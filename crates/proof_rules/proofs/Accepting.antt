@@ -3,7 +3,7 @@ use Rattle.std.proofs.Common.{◌≡◌, inl, inr, ℕ, zero, suc, ◌<◌, ◌�
 use Rattle.std.specs.Prelude.{◌==◌, flat_map}
 use Rattle.std.proofs.lemmas.Bool.{eqb-true}
 use Rattle.std.proofs.lemmas.List.Elements.{All-weaker}
-use Rattle.station_reader.proofs.Lists.{length-made}
+use Rattle.station.proofs.Lists.{length-made}
 use Rattle.patterns.specs.Allowed.{Lists, full_lists}
 use Rattle.pair_prices.specs.Case.{CaseRecord}
 use Rattle.leaf_bounds.specs.declared.table.PotTable.{PotTable}

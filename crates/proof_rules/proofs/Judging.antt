@@ -5,7 +5,7 @@ use Rattle.std.specs.List.{list_all}
 use Rattle.std.proofs.lemmas.Bool.{and_from}
 use Rattle.std.proofs.lemmas.List.Folds.{list_all-append}
 use Rattle.std.proofs.lemmas.List.Elements.{All-weaker}
-use Rattle.station_reader.proofs.Lists.{length-made}
+use Rattle.station.proofs.Lists.{length-made}
 use Rattle.patterns.specs.Allowed.{Lists, full_lists}
 use Rattle.pair_prices.specs.Case.{CaseRecord}
 use Rattle.leaf_bounds.specs.declared.table.PotTable.{PotTable}

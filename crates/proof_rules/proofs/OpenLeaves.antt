@@ -3,7 +3,7 @@ use Rattle.std.proofs.Common.{◌≡◌, ℕ, ◌<◌, ◌≤◌, ◌^◌, ◌==
 use Rattle.std.specs.Prelude.{Contains, Ok}
 use Rattle.std.specs.List.{All}
 use Rattle.std.specs.Ordering.{int_eq}
-use Rattle.station_reader.proofs.Lists.{Every, every-at, every-weaker}
+use Rattle.station.proofs.Lists.{Every, every-at, every-weaker}
 use Rattle.patterns.specs.Allowed.{Lists, list_of}
 use Rattle.pair_prices.specs.Case.{CaseRecord}
 use Rattle.leaf_bounds.specs.declared.number.TrainValue.{TrainValue}

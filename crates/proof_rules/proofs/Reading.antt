@@ -3,7 +3,7 @@ use Rattle.std.proofs.Common.{◌≡◌, ◌⊎◌, ℕ, ◌≤◌, true, false,
 use Rattle.std.specs.Prelude.{◌==◌, flat_map}
 use Rattle.std.proofs.lemmas.List.{append-nil}
 use Rattle.std.proofs.lemmas.Bool.{and_parts, not-true}
-use Rattle.station_reader.proofs.Lists.{Every}
+use Rattle.station.proofs.Lists.{Every}
 use Rattle.patterns.specs.Allowed.{Lists, full_lists}
 use Rattle.pair_prices.specs.Case.{CaseRecord}
 use Rattle.leaf_bounds.specs.declared.shared.SharedLeaf.{SharedLeaf}

@@ -3,7 +3,7 @@ use Rattle.std.proofs.Common.{◌≡◌, ℕ, suc, true, false, eqb, ◌&&◌, L
 use Rattle.std.specs.Prelude.{nat_lt}
 use Rattle.std.proofs.lemmas.List.{append-nil}
 use Rattle.std.proofs.lemmas.Bool.{cond-true, eq-eqb, lt-ltb}
-use Rattle.station_reader.proofs.Lists.{Every}
+use Rattle.station.proofs.Lists.{Every}
 use Rattle.patterns.specs.Allowed.{full_lists}
 use Rattle.patterns.specs.Book.{offers_of}
 use Rattle.pair_prices.specs.Case.{CaseRecord}

@@ -3,7 +3,7 @@ use Rattle.std.proofs.Common.{◌≡◌, ℕ, suc, ◌+◌, ◌<◌, ◌≤◌, 
 use Rattle.std.specs.Prelude.{slice_get, unsigned_abs}
 use Rattle.std.specs.List.{All}
 use Rattle.std.proofs.lemmas.List.{append-nil, map-append}
-use Rattle.station_reader.proofs.Lists.{Every, every-at}
+use Rattle.station.proofs.Lists.{Every, every-at}
 use Rattle.patterns.specs.Book.{offers_of}
 use Rattle.pair_prices.specs.Case.{CaseRecord}
 use Rattle.leaf_bounds.specs.declared.number.NumberValue.{NumberValue}

@@ -5,7 +5,7 @@ use Rattle.std.specs.List.{All, list_all}
 use Rattle.std.proofs.lemmas.Int.{ints}
 use Rattle.std.proofs.lemmas.Bool.{and_from, and_parts, lt-ltb, ltb-true}
 use Rattle.std.proofs.lemmas.List.Elements.{All-nil, All-cons, All-head, All-tail, All-contains}
-use Rattle.station_reader.proofs.Lists.{Every, Rising, every-append, every-weaker, rising-append}
+use Rattle.station.proofs.Lists.{Every, Rising, every-append, every-weaker, rising-append}
 use Rattle.leaf_bounds.proofs.RisingLemmas.{Before}
 use Rattle.proof_rules.specs.Fault.{State, checked, is_none, is_above, is_some_value}
 

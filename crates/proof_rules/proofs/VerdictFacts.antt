@@ -4,8 +4,8 @@ use Rattle.std.specs.Prelude.{Contains, int_lt}
 use Rattle.std.specs.List.{flat_map}
 use Rattle.std.proofs.lemmas.Int.{ints}
 use Rattle.std.proofs.lemmas.List.Elements.{All-contains, All-contains_itself}
-use Rattle.station_reader.specs.Allowed.{numbers}
-use Rattle.station_reader.proofs.Lists.{Every, every-append, every-weaker}
+use Rattle.station.specs.Allowed.{numbers}
+use Rattle.station.proofs.Lists.{Every, every-append, every-weaker}
 use Rattle.patterns.specs.Allowed.{Lists, list_of}
 use Rattle.patterns.proofs.SoundLemmas.{numbers_below}
 use Rattle.pair_prices.specs.Case.{CaseRecord}

@@ -3,8 +3,8 @@ use Rattle.std.proofs.Common.{◌≡◌, ℕ, true, false, cond, not, ◌||◌, 
 use Rattle.std.specs.Prelude.{◌==◌, flat_map}
 use Rattle.std.proofs.lemmas.Bool.{eq-eqb}
 use Rattle.std.proofs.lemmas.Bool.Decides.{Decides-int_eq}
-use Rattle.station_reader.specs.Allowed.{numbers}
-use Rattle.station_reader.proofs.Lists.{length-made}
+use Rattle.station.specs.Allowed.{numbers}
+use Rattle.station.proofs.Lists.{length-made}
 use Rattle.patterns.specs.Allowed.{full_lists}
 use Rattle.pair_prices.specs.Case.{CaseRecord}
 use Rattle.leaf_bounds.specs.declared.shared.SharedLeaf.{SharedLeaf}

@@ -1,10 +1,10 @@
 -- The lines of the reports.
 use Rattle.std.specs.Prelude.{ℕ, List, [], ◌∷◌, ◌++◌, length, flat_map, codes, ℤ}
 use Rattle.std.specs.Fmt.{decimal, signed_decimal}
-use Rattle.station_reader.specs.Allowed.{StationRecord, numbers}
-use Rattle.station_reader.specs.declared.part.PathWay.{PathWay}
-use Rattle.station_reader.specs.declared.part.PathWay.TheVariants.{In, Out}
-use Rattle.station_reader.specs.declared.part.Pattern.{Pattern}
+use Rattle.station.specs.Allowed.{StationRecord, numbers}
+use Rattle.station.specs.declared.part.PathWay.{PathWay}
+use Rattle.station.specs.declared.part.PathWay.TheVariants.{In, Out}
+use Rattle.station.specs.declared.part.Pattern.{Pattern}
 use Rattle.patterns.specs.declared.offer.Offer.{Offer}
 use Rattle.patterns.specs.Book.{offers_of, offer_at}
 use Rattle.pair_prices.specs.declared.pair.Why.{Why}

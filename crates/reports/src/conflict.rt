@@ -5,7 +5,7 @@ use crate::names::train_name;
 use crate::words::push_word;
 use pair_prices::{Case, Why};
 use plan_cost::Clash;
-use station_reader::PathWay;
+use station::PathWay;
 use std::alloc::{AllocError, Global};
 
 /// Two trains whose patterns are forbidden together, and why (docs/FORMATS.md).

@@ -1,14 +1,14 @@
 // The lines of all patterns of all trains.
 ghost use Rattle.patterns.specs.Book.{offers_of, price_at};
 ghost use Rattle.reports.specs.Text.{last_word, minutes, pattern_line, patterns_text, places, train_patterns};
-ghost use Rattle.station_reader.specs.Shown.{record_of};
+ghost use Rattle.station.specs.Shown.{record_of};
 ghost use Rattle.std.specs.Fmt.{decimal};
 ghost use Rattle.std.specs.Prelude.{◌≡◌, ◌++◌, ◌<◌, length, IfOk, OnOk};
 
 use crate::names::{path_word, platform_name, train_name};
 use crate::words::{push_last, push_number, push_word};
 use pair_prices::Case;
-use station_reader::{Pattern, Station};
+use station::{Pattern, Station};
 use std::alloc::{AllocError, Global};
 
 /// A line for each train and pattern: the train's name, the pattern's number, its platform, its arrival path and its

@@ -1,9 +1,9 @@
 // The names that lines show.
 ghost use Rattle.diagram.specs.Text.{path_word, platform_name, train_name};
-ghost use Rattle.station_reader.specs.Shown.{record_of};
+ghost use Rattle.station.specs.Shown.{record_of};
 ghost use Rattle.std.specs.Prelude.{◌≡◌};
 
-use station_reader::Station;
+use station::Station;
 
 pub(crate) fn train_name(station: &Station, train: usize) -> &[u8]
     ensures { result.now ≡ train_name (record_of station.now) train }

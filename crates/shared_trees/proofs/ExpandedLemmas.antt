@@ -3,7 +3,7 @@ use Rattle.std.proofs.Common.{◌≡◌, ℕ, zero, suc, ◌<◌, ◌==◌, ◌&
 use Rattle.std.specs.Prelude.{Contains}
 use Rattle.std.specs.List.{filter, list_any}
 use Rattle.std.proofs.lemmas.Int.{ints}
-use Rattle.station_reader.proofs.Lists.{Rising}
+use Rattle.station.proofs.Lists.{Rising}
 use Rattle.patterns.specs.Allowed.{Lists, list_of}
 use Rattle.pair_prices.specs.Trains.{TrainPair}
 use Rattle.leaf_bounds.specs.declared.leaf.Leaf.{Leaf}

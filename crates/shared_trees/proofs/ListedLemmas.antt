@@ -5,7 +5,7 @@ use Rattle.std.specs.List.{filter, list_any}
 use Rattle.std.proofs.lemmas.Int.{ints}
 use Rattle.std.proofs.lemmas.Bool.{eq-eqb, eqb-true}
 use Rattle.std.proofs.lemmas.List.Folds.{list_any_at}
-use Rattle.station_reader.proofs.Lists.{Every, Rising}
+use Rattle.station.proofs.Lists.{Every, Rising}
 use Rattle.patterns.specs.Allowed.{Lists, list_of}
 use Rattle.pair_prices.specs.Trains.{TrainPair}
 use Rattle.leaf_bounds.specs.declared.number.PairValue.{PairValue}

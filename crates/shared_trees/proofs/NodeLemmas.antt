@@ -1,6 +1,6 @@
 -- Shared nodes stand for the nodes that they were made of.
 use Rattle.std.proofs.Common.{◌≡◌, ℕ, zero, suc, List, [], ◌∷◌, length, map, refl, sym, ap, subst, Some, slice_get}
-use Rattle.station_reader.proofs.Lists.{Rising}
+use Rattle.station.proofs.Lists.{Rising}
 use Rattle.leaf_bounds.specs.declared.table.PotTable.{PotTable}
 use Rattle.leaf_bounds.specs.declared.shared.SharedNode.{SharedNode}
 use Rattle.leaf_bounds.specs.declared.shared.SharedNode.TheVariants.{Split as SharedSplit, Leaf as SharedLeafNode}

@@ -2,7 +2,7 @@
 use Rattle.std.proofs.Common.{◌≡◌, ℕ, zero, suc, Bool, true, false, cond, not, List, [], ◌∷◌, map, take, refl, sym, subst}
 use Rattle.std.specs.List.{All, filter, flat_map}
 use Rattle.std.proofs.lemmas.List.Elements.{All-cons, All-head, All-nil, All-tail}
-use Rattle.station_reader.proofs.Lists.{Every, Rising, every-append, every-filter, every-weaker, rising-filter}
+use Rattle.station.proofs.Lists.{Every, Rising, every-append, every-filter, every-weaker, rising-filter}
 use Rattle.pair_prices.specs.Trains.{TrainPair, train_pairs}
 use Rattle.leaf_bounds.specs.declared.leaf.Leaf.{Leaf}
 use Rattle.leaf_bounds.specs.declared.table.PotTable.{PotTable}

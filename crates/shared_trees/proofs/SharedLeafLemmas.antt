@@ -3,7 +3,7 @@ use Rattle.std.proofs.Common.{◌≡◌, ℕ, suc, ◌+◌, ◌<◌, List, [], �
 use Rattle.std.specs.Prelude.{Contains}
 use Rattle.std.specs.List.{All}
 use Rattle.std.proofs.lemmas.List.Elements.{All-filter}
-use Rattle.station_reader.proofs.Lists.{Every, Rising, chosen-every, every-weaker, length-made}
+use Rattle.station.proofs.Lists.{Every, Rising, chosen-every, every-weaker, length-made}
 use Rattle.patterns.specs.Allowed.{Lists, list_of}
 use Rattle.pair_prices.specs.Case.{CaseRecord}
 use Rattle.leaf_bounds.specs.declared.leaf.Leaf.{Leaf}

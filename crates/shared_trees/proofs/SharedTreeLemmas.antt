@@ -1,6 +1,6 @@
 -- Where a tree stands, so does its shared tree.
 use Rattle.std.proofs.Common.{◌≡◌, List, [], ◌∷◌, ◌++◌, map, refl, sym, ap, ◌∙◌, subst, append_assoc}
-use Rattle.station_reader.proofs.Lists.{Every, Rising}
+use Rattle.station.proofs.Lists.{Every, Rising}
 use Rattle.patterns.specs.Allowed.{Lists, full_lists}
 use Rattle.patterns.proofs.ListLemmas.{full_fits}
 use Rattle.pair_prices.specs.Case.{CaseRecord}

@@ -5,7 +5,7 @@ use Rattle.std.specs.List.{filter}
 use Rattle.std.proofs.lemmas.Bool.{cases_lt, lt-leb}
 use Rattle.std.proofs.lemmas.List.{get_or_past}
 use Rattle.std.proofs.lemmas.List.Elements.{All-contains}
-use Rattle.station_reader.proofs.Lists.{Every, every-append}
+use Rattle.station.proofs.Lists.{Every, every-append}
 use Rattle.patterns.specs.Book.{offers_of}
 use Rattle.patterns.specs.Allowed.{Lists, list_of, part_below, part_from, FitsBook}
 use Rattle.patterns.proofs.ListLemmas.{below_fits, rest_fits}

@@ -3,7 +3,7 @@ use Rattle.std.proofs.Common.{◌≡◌, ℕ, zero, suc, ◌+◌, ◌<◌, ◌==
 use Rattle.std.specs.List.{filter, list_any}
 use Rattle.std.proofs.lemmas.Int.{ints}
 use Rattle.std.proofs.lemmas.Bool.{eqb-true}
-use Rattle.station_reader.proofs.Lists.{Every, Rising, any-found, every-at, rising-filter}
+use Rattle.station.proofs.Lists.{Every, Rising, any-found, every-at, rising-filter}
 use Rattle.pair_prices.specs.Trains.{TrainPair}
 use Rattle.leaf_bounds.specs.declared.leaf.Leaf.{Leaf}
 use Rattle.leaf_bounds.specs.declared.number.NumberValue.{NumberValue}

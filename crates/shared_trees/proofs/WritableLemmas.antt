@@ -3,7 +3,7 @@ use Rattle.std.proofs.Common.{◌≡◌, ℕ, zero, suc, ◌+◌, ◌<◌, ◌�
 use Rattle.std.specs.List.{All}
 use Rattle.std.proofs.lemmas.Int.{ints}
 use Rattle.std.proofs.lemmas.List.{length-take}
-use Rattle.station_reader.proofs.Lists.{Every, chosen-every, every-at, every-weaker, length-made}
+use Rattle.station.proofs.Lists.{Every, chosen-every, every-at, every-weaker, length-made}
 use Rattle.patterns.specs.Book.{IsBook}
 use Rattle.patterns.specs.Allowed.{full_lists}
 use Rattle.pair_prices.specs.Case.{CaseRecord, IsCase}

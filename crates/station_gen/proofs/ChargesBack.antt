@@ -3,14 +3,14 @@ use Rattle.std.proofs.Common.{◌≡◌, ℕ, zero, suc, ◌+◌, ◌<◌, List,
 use Rattle.std.specs.List.{cons_option}
 use Rattle.std.proofs.lemmas.Slice.Eq.{bytes_eq-Decides}
 use Rattle.serde_json.specs.Data.{Data}
-use Rattle.station_reader.specs.declared.part.Surcharge.{Surcharge}
+use Rattle.station.specs.declared.part.Surcharge.{Surcharge}
 use Rattle.station_reader.specs.Tree.{natural}
 use Rattle.station_reader.specs.Classes.{charged_name, charged_price}
-use Rattle.station_reader.specs.Station.{AllDiffer, charged}
+use Rattle.station.specs.Station.{AllDiffer, charged}
 use Rattle.station_reader.specs.Reading.{charge_of, surcharges_from}
-use Rattle.station_reader.proofs.Among.{Among, place-of}
+use Rattle.station.proofs.Among.{Among, place-of}
 use Rattle.station_reader.proofs.Chosen.{charges_rising}
-use Rattle.station_reader.proofs.Lists.{Rising, map-at}
+use Rattle.station.proofs.Lists.{Rising, map-at}
 use Rattle.station_gen.proofs.Listed.{name-at}
 use Rattle.station_gen.proofs.SameRising.{every-of, rising-by, rising-unmap, same-rising}
 

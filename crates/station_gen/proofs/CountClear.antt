@@ -4,14 +4,14 @@ use Rattle.serde_json.specs.Data.{Data, string}
 use Rattle.station_reader.specs.declared.member.Member.TheVariants.{Directions, Platforms, Paths, Incompatible, Trains, Prefer, Surcharges}
 use Rattle.station_reader.specs.declared.place.Spot.{Spot}
 use Rattle.station_reader.specs.declared.place.Spot.TheVariants.{Of, Field}
-use Rattle.station_reader.specs.declared.part.Surcharge.{Surcharge}
-use Rattle.station_reader.specs.declared.part.Train.{Train}
+use Rattle.station.specs.declared.part.Surcharge.{Surcharge}
+use Rattle.station.specs.declared.part.Train.{Train}
 use Rattle.station_reader.specs.First.{unless, each}
 use Rattle.station_reader.specs.Tree.{entries_at}
 use Rattle.station_reader.specs.Classes.{length_within, train_count, count}
-use Rattle.station_reader.specs.Allowed.{StationRecord}
-use Rattle.station_reader.specs.Station.{IsTrain, IsStation}
-use Rattle.station_reader.proofs.Lists.{length-made}
+use Rattle.station.specs.Allowed.{StationRecord}
+use Rattle.station.specs.Station.{IsTrain, IsStation}
+use Rattle.station.proofs.Lists.{length-made}
 use Rattle.station_gen.specs.declared.version.Version.{Version}
 use Rattle.station_gen.specs.Json.{named_json, platform_names, platform_json, path_json, pair_json, charge_json, train_json, station_json}
 use Rattle.station_gen.proofs.Listed.{neither, held, clear-made, within-limits}

@@ -2,13 +2,13 @@
 use Rattle.std.proofs.Common.{◌≡◌, ℕ, ◌+◌, ◌-◌, ◌*◌, ◌≤◌, append-nil, List, [], ◌∷◌, ◌++◌, map, length, sym, ap, ◌∙◌, subst, append_assoc, true, slice_index_or, lit≤}
 use Rattle.std.specs.Prelude.{decimal}
 use Rattle.std.specs.List.{flat_map}
-use Rattle.station_reader.specs.declared.part.Platform.{Platform}
-use Rattle.station_reader.specs.declared.part.Path.{Path}
-use Rattle.station_reader.specs.declared.part.PathWay.{PathWay}
-use Rattle.station_reader.specs.declared.part.PathPair.{PathPair}
-use Rattle.station_reader.specs.Allowed.{numbers}
+use Rattle.station.specs.declared.part.Platform.{Platform}
+use Rattle.station.specs.declared.part.Path.{Path}
+use Rattle.station.specs.declared.part.PathWay.{PathWay}
+use Rattle.station.specs.declared.part.PathPair.{PathPair}
+use Rattle.station.specs.Allowed.{numbers}
 use Rattle.station_reader.proofs.Rows.{rows_from, rows_from-end}
-use Rattle.station_reader.specs.Named.{is_name}
+use Rattle.station.specs.Named.{is_name}
 use Rattle.station_gen.specs.Made.{made_directions, regular, dummy, made_platforms, letter, path_name, paths_between, paths_of, made_paths, made_trains, made_train, state_after, is_alike_pair, alike_pairs}
 
 pub named_as : (bs ns : List ℕ) → bs ≡ ns → is_name ns ≡ true → is_name bs ≡ true

@@ -3,13 +3,13 @@ use Rattle.std.proofs.Common.{◌≡◌, ℕ, zero, suc, ◌+◌, ◌*◌, ◌<�
 use borrow.Author.Tests.{leb-true}
 use Rattle.std.specs.List.{list_all, list_any}
 use Rattle.std.proofs.lemmas.List.FromFn.{length-map-range_with_len}
-use Rattle.station_reader.specs.declared.part.Platform.{Platform}
-use Rattle.station_reader.specs.declared.part.PathWay.TheVariants.{In, Out}
-use Rattle.station_reader.specs.declared.part.Train.{Train}
-use Rattle.station_reader.specs.Allowed.{StationRecord, numbers, window, allowed_list}
-use Rattle.station_reader.specs.Counted.{total, ways, path_pairs, departures, times, on_platform, counted}
-use Rattle.station_reader.proofs.Counts.{length-allowed_list}
-use Rattle.station_reader.proofs.Limits.{left, right}
+use Rattle.station.specs.declared.part.Platform.{Platform}
+use Rattle.station.specs.declared.part.PathWay.TheVariants.{In, Out}
+use Rattle.station.specs.declared.part.Train.{Train}
+use Rattle.station.specs.Allowed.{StationRecord, numbers, window, allowed_list}
+use Rattle.station.specs.Counted.{total, ways, path_pairs, departures, times, on_platform, counted}
+use Rattle.station.proofs.Counts.{length-allowed_list}
+use Rattle.station.proofs.Tests.{left, right}
 use Rattle.station_gen.specs.Made.{made_platforms, made_path, paths_of, made_paths}
 use Rattle.station_gen.proofs.Tested.{passes-below}
 

@@ -10,10 +10,10 @@ use Rattle.station_reader.specs.First.{occurs}
 use Rattle.station_reader.specs.Tree.{at, entries_if, entries_at, whole, integer_at, texts}
 use Rattle.station_reader.specs.Shape.{edition, has_only, station_members}
 use Rattle.station_reader.specs.Classes.{names, direction_names, platform_names, path_names}
-use Rattle.station_reader.specs.Allowed.{StationRecord}
-use Rattle.station_reader.specs.declared.part.Platform.{Platform}
-use Rattle.station_reader.specs.declared.part.Path.{Path}
-use Rattle.station_reader.specs.declared.part.Train.{Train}
+use Rattle.station.specs.Allowed.{StationRecord}
+use Rattle.station.specs.declared.part.Platform.{Platform}
+use Rattle.station.specs.declared.part.Path.{Path}
+use Rattle.station.specs.declared.part.Train.{Train}
 use Rattle.station_gen.specs.declared.version.Version.{Version}
 use Rattle.station_gen.specs.declared.version.Version.TheVariants.{One, Two}
 use Rattle.station_gen.specs.Json.{whole_json, list_json, platform_json, path_json, pair_json, train_json, charge_json, named_json, station_json, platform_names as platform_names_of, path_names as path_names_of}

@@ -7,22 +7,22 @@ use Rattle.std.proofs.lemmas.Fmt.{decimal_injective}
 use Rattle.std.proofs.lemmas.Int.{ints}
 use Rattle.std.proofs.lemmas.List.FromFn.{length-map-range_with_len, length-range_with_len}
 use borrow.Author.Tests.{ltb-true, eqb-true}
-use Rattle.station_reader.specs.declared.part.Platform.{Platform}
-use Rattle.station_reader.specs.declared.part.Path.{Path}
-use Rattle.station_reader.specs.declared.part.PathPair.{PathPair}
-use Rattle.station_reader.specs.declared.part.Train.{Train}
+use Rattle.station.specs.declared.part.Platform.{Platform}
+use Rattle.station.specs.declared.part.Path.{Path}
+use Rattle.station.specs.declared.part.PathPair.{PathPair}
+use Rattle.station.specs.declared.part.Train.{Train}
 use Rattle.station_reader.specs.declared.place.Spot.TheVariants.{Entry, Field}
 use Rattle.station_reader.specs.declared.member.Member.TheVariants.{Directions, Platforms, Paths, Name}
-use Rattle.station_reader.specs.Named.{is_name, is_name_byte}
+use Rattle.station.specs.Named.{is_name, is_name_byte}
 use Rattle.station_reader.specs.First.{occurs}
 use Rattle.station_reader.specs.Classes.{repeat}
-use Rattle.station_reader.specs.Allowed.{StationRecord, numbers, is_dummy, allowed_list}
+use Rattle.station.specs.Allowed.{StationRecord, numbers, is_dummy, allowed_list}
 use Rattle.station_reader.specs.Reading.{pairs_below}
-use Rattle.station_reader.specs.Station.{AllDiffer, IsPlatform, IsPath, ArePlatforms, IsTrain, IsBefore, IsStation}
+use Rattle.station.specs.Station.{AllDiffer, IsPlatform, IsPath, ArePlatforms, IsTrain, IsBefore, IsStation}
 use Rattle.station_reader.proofs.Chosen.{IsPairFrom, rows_within, rows_rising}
 use Rattle.station_reader.proofs.Differ.{new-from_again, differ}
-use Rattle.station_reader.proofs.Limits.{left, right}
-use Rattle.station_reader.proofs.Lists.{Every, Rising, every-at, rising-at, every-filter, rising-filter, mapped}
+use Rattle.station.proofs.Tests.{left, right}
+use Rattle.station.proofs.Lists.{Every, Rising, every-at, rising-at, every-filter, rising-filter, mapped}
 use Rattle.station_gen.specs.Made.{next, drawn, state_after, made_directions, regular, dummy, made_platforms, made_path, paths_of, made_paths, is_alike_pair, alike_pairs, made_train, made_trains, made_station}
 use Rattle.station_gen.proofs.Tested.{passes-at, passes-below, made-numbers}
 use Rattle.station_gen.proofs.Names.{name_regular, name_dummy, name_train}

@@ -5,7 +5,7 @@ use Rattle.serde_json.specs.Data.{Data}
 use Rattle.serde_json.specs.View.{items_of}
 use Rattle.station_reader.specs.First.{or_else, unless, each, each_from}
 use Rattle.station_reader.specs.Tree.{list_of}
-use Rattle.station_reader.proofs.Differ.{or_right}
+use Rattle.station.proofs.Tests.{or_right}
 
 pub list_of-items_of : (ds : List Data) → list_of (items_of ds) ≡ ds
 list_of-items_of [] = refl

@@ -1,7 +1,7 @@
 -- Version 1 can say each generated station.
 use Rattle.std.proofs.Common.{◌≡◌, ℕ, ◌*◌, Bool, true, ◌&&◌, if◌then◌else◌, refl, ap, ◌∙◌, subst}
 use Rattle.std.specs.List.{list_all}
-use Rattle.station_reader.specs.declared.part.Train.{Train}
+use Rattle.station.specs.declared.part.Train.{Train}
 use Rattle.station_gen.specs.declared.version.Version.TheVariants.{One, Two}
 use Rattle.station_gen.specs.Json.{has_no_buffer, runs_through, version_of}
 use Rattle.station_gen.specs.Made.{state_after, regular, dummy, made_platforms, made_train, made_trains, made_station}

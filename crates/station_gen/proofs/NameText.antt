@@ -6,8 +6,8 @@ use Rattle.std.specs.Str.{IsUtf8, IsAscii}
 use Rattle.std.proofs.lemmas.Str.{IsUtf8-from_ascii}
 use Rattle.std.proofs.lemmas.Bool.Decides.{nat_tests}
 use Rattle.json.specs.Print.{escape_byte, escape, quoted}
-use Rattle.station_reader.specs.Named.{is_name, is_name_byte}
-use Rattle.station_reader.proofs.Limits.{left, right}
+use Rattle.station.specs.Named.{is_name, is_name_byte}
+use Rattle.station.proofs.Tests.{left, right}
 
 -- which bytes a name may have: none below 45, and no backslash
 pub record IsPlainByte (b : ℕ) : Type 0 where

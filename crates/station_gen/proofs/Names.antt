@@ -3,11 +3,11 @@ use Rattle.std.proofs.Common.{◌≡◌, ℕ, ◌+◌, ◌<◌, [], ◌++◌, Bo
 use Rattle.std.specs.Prelude.{codes, decimal}
 use Rattle.std.specs.Fmt.{digits}
 use Rattle.std.specs.List.{list_all}
-use Rattle.station_reader.specs.declared.part.PathWay.{PathWay}
-use Rattle.station_reader.specs.declared.part.PathWay.TheVariants.{In, Out}
-use Rattle.station_reader.specs.Named.{is_name, is_name_byte}
-use Rattle.station_reader.specs.Allowed.{numbers}
-use Rattle.station_reader.proofs.Limits.{left, right}
+use Rattle.station.specs.declared.part.PathWay.{PathWay}
+use Rattle.station.specs.declared.part.PathWay.TheVariants.{In, Out}
+use Rattle.station.specs.Named.{is_name, is_name_byte}
+use Rattle.station.specs.Allowed.{numbers}
+use Rattle.station.proofs.Tests.{left, right}
 use Rattle.station_gen.specs.Made.{made_directions, path_name}
 use Rattle.station_gen.proofs.Tested.{passes-below}
 

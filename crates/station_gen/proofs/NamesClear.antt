@@ -6,17 +6,17 @@ use Rattle.serde_json.specs.Data.{string}
 use Rattle.station_reader.specs.declared.member.Member.TheVariants.{Directions, Platforms, Paths, Trains, Name, Prefer, Surcharges}
 use Rattle.station_reader.specs.declared.place.Spot.{Spot}
 use Rattle.station_reader.specs.declared.place.Spot.TheVariants.{Entry, Field, Item, ItemPart}
-use Rattle.station_reader.specs.declared.part.Platform.{Platform}
-use Rattle.station_reader.specs.declared.part.Path.{Path}
-use Rattle.station_reader.specs.declared.part.Surcharge.{Surcharge}
-use Rattle.station_reader.specs.declared.part.Train.{Train}
-use Rattle.station_reader.specs.Named.{is_name}
+use Rattle.station.specs.declared.part.Platform.{Platform}
+use Rattle.station.specs.declared.part.Path.{Path}
+use Rattle.station.specs.declared.part.Surcharge.{Surcharge}
+use Rattle.station.specs.declared.part.Train.{Train}
+use Rattle.station.specs.Named.{is_name}
 use Rattle.station_reader.specs.First.{unless, each, occurs}
 use Rattle.station_reader.specs.Tree.{entries_at, text, texts, text_at}
 use Rattle.station_reader.specs.Classes.{direction_name, entry_name, name, names, repeat, again, charged_name, charged_names, train_double, double}
-use Rattle.station_reader.specs.Allowed.{StationRecord}
-use Rattle.station_reader.specs.Station.{AllDiffer, ArePlatforms, IsStation, charged}
-use Rattle.station_reader.proofs.Lists.{any-found, mapped, map-at, length-made}
+use Rattle.station.specs.Allowed.{StationRecord}
+use Rattle.station.specs.Station.{AllDiffer, ArePlatforms, IsStation, charged}
+use Rattle.station.proofs.Lists.{any-found, mapped, map-at, length-made}
 use Rattle.station_gen.specs.declared.version.Version.{Version}
 use Rattle.station_gen.specs.declared.version.Version.TheVariants.{One, Two}
 use Rattle.station_gen.specs.Json.{named_json, platform_names, platform_json, path_json, charge_json, train_json, station_json}

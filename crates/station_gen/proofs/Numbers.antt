@@ -2,12 +2,12 @@
 use Rattle.std.proofs.Common.{◌≡◌, ℕ, zero, suc, ◌+◌, ◌<◌, List, [], ◌∷◌, map, length, Bool, true, false, cond, Some, slice_get, slice_index_or, refl, sym, ap, ◌∙◌, subst, arith, inl, inr, bytes_eq, true≢false}
 use Rattle.std.proofs.lemmas.Slice.Eq.{bytes_eq-Decides}
 use Rattle.station_reader.specs.First.{occurs}
-use Rattle.station_reader.specs.Station.{AllDiffer}
+use Rattle.station.specs.Station.{AllDiffer}
 use Rattle.station_reader.specs.Reading.{number_of, numbers_from}
-use Rattle.station_reader.proofs.Among.{Among, among-at, place-of}
+use Rattle.station.proofs.Among.{Among, among-at, place-of}
 use Rattle.station_reader.proofs.Chosen.{numbers_rising}
 use Rattle.station_reader.proofs.Differ.{occurs-at}
-use Rattle.station_reader.proofs.Lists.{any-found, mapped, map-at}
+use Rattle.station.proofs.Lists.{any-found, mapped, map-at}
 use Rattle.station_reader.proofs.Numbered.{number_of-named}
 use Rattle.station_gen.proofs.Listed.{name-at}
 use Rattle.station_gen.proofs.SameRising.{rising-by, same-rising}

@@ -4,13 +4,13 @@ use Rattle.std.specs.Prelude.{filter}
 use Rattle.std.specs.List.{list_any, range_with_len}
 use Rattle.std.proofs.lemmas.Bool.{eq-eqb}
 use borrow.Author.Tests.{eqb-true}
-use Rattle.station_reader.specs.declared.part.PathPair.{PathPair}
-use Rattle.station_reader.specs.Station.{IsBefore}
+use Rattle.station.specs.declared.part.PathPair.{PathPair}
+use Rattle.station.specs.Station.{IsBefore}
 use Rattle.station_reader.specs.Reading.{same_pair, pairs_with, pairs_below}
-use Rattle.station_reader.proofs.Among.{Among, among-at, place-of, into-map, into-flat_map, into-filter, from-filter, into-range}
+use Rattle.station.proofs.Among.{Among, among-at, place-of, into-map, into-flat_map, into-filter, from-filter, into-range}
 use Rattle.station_reader.proofs.Chosen.{IsPairFrom, rows_within, rows_rising}
-use Rattle.station_reader.proofs.Limits.{left, right}
-use Rattle.station_reader.proofs.Lists.{any-found, rising-filter}
+use Rattle.station.proofs.Tests.{left, right}
+use Rattle.station.proofs.Lists.{any-found, rising-filter}
 use Rattle.station_gen.proofs.Listed.{any-at, both_hold, or_first}
 use Rattle.station_gen.proofs.SameRising.{every-of, rising-by, same-rising}
 

@@ -4,13 +4,13 @@ use Rattle.std.specs.Prelude.{codes}
 use Rattle.serde_json.specs.Data.{Data, string, boolean, depth, items_depth, members_depth}
 use Rattle.serde_json.specs.View.{items_of}
 use Rattle.serde_json.specs.Written.{has_float, items_have_float, members_have_float}
-use Rattle.station_reader.specs.declared.part.Platform.{Platform}
-use Rattle.station_reader.specs.declared.part.Path.{Path}
-use Rattle.station_reader.specs.declared.part.PathPair.{PathPair}
-use Rattle.station_reader.specs.declared.part.Surcharge.{Surcharge}
-use Rattle.station_reader.specs.declared.part.Train.{Train}
-use Rattle.station_reader.specs.Allowed.{StationRecord}
-use Rattle.station_reader.proofs.Lists.{Every}
+use Rattle.station.specs.declared.part.Platform.{Platform}
+use Rattle.station.specs.declared.part.Path.{Path}
+use Rattle.station.specs.declared.part.PathPair.{PathPair}
+use Rattle.station.specs.declared.part.Surcharge.{Surcharge}
+use Rattle.station.specs.declared.part.Train.{Train}
+use Rattle.station.specs.Allowed.{StationRecord}
+use Rattle.station.proofs.Lists.{Every}
 use Rattle.station_gen.specs.declared.version.Version.{Version}
 use Rattle.station_gen.specs.declared.version.Version.TheVariants.{One, Two}
 use Rattle.station_gen.specs.Json.{members_of_platform, members_of_path, members_of_train, main_members, members_of_station, version_number, way_text, whole_json, minute_json, list_json, members_json, object_json, named_json, named_if_json, platform_names, path_names, platforms_json, platform_json, path_json, pair_json, charge_json, train_json, station_json}

@@ -4,15 +4,15 @@ use Rattle.std.proofs.lemmas.Int.{ints}
 use Rattle.station_reader.specs.declared.member.Member.{Member}
 use Rattle.station_reader.specs.declared.member.Member.TheVariants.{Threshold, ConflictPrice, BufferPrice, Price, Headway, Buffer, Minutes, Arrive, Depart, Dwell, ArriveEarly, ArriveLate, DepartEarly, DepartLate, OffPrice, ShiftPrice, Surcharges}
 use Rattle.station_reader.specs.declared.place.Spot.{Spot}
-use Rattle.station_reader.specs.declared.part.Platform.{Platform}
-use Rattle.station_reader.specs.declared.part.Path.{Path}
-use Rattle.station_reader.specs.declared.part.Surcharge.{Surcharge}
-use Rattle.station_reader.specs.declared.part.Train.{Train}
+use Rattle.station.specs.declared.part.Platform.{Platform}
+use Rattle.station.specs.declared.part.Path.{Path}
+use Rattle.station.specs.declared.part.Surcharge.{Surcharge}
+use Rattle.station.specs.declared.part.Train.{Train}
 use Rattle.station_reader.specs.First.{unless, each}
 use Rattle.station_reader.specs.Tree.{whole, integer_at}
 use Rattle.station_reader.specs.Classes.{least, most, within, station_range, platform_range, path_range, charge_range, train_times, train_shifts, train_prices, train_range, range}
-use Rattle.station_reader.specs.Allowed.{StationRecord}
-use Rattle.station_reader.specs.Station.{IsPlatform, IsPath, IsTrain, IsStation}
+use Rattle.station.specs.Allowed.{StationRecord}
+use Rattle.station.specs.Station.{IsPlatform, IsPath, IsTrain, IsStation}
 use Rattle.station_gen.specs.declared.version.Version.{Version}
 use Rattle.station_gen.specs.declared.version.Version.TheVariants.{One, Two}
 use Rattle.station_gen.specs.Json.{minute_json, platform_json, path_json, charge_json, train_json, station_json}

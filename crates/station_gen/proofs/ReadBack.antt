@@ -9,12 +9,12 @@ use Rattle.station_reader.specs.declared.place.Spot.{Spot}
 use Rattle.station_reader.specs.declared.place.Spot.TheVariants.{Entry}
 use Rattle.station_reader.specs.declared.member.Member.TheVariants.{Trains}
 use Rattle.station_reader.specs.declared.form.Edition.{Edition}
-use Rattle.station_reader.specs.declared.part.Train.{Train}
+use Rattle.station.specs.declared.part.Train.{Train}
 use Rattle.station_reader.specs.First.{unless}
 use Rattle.station_reader.specs.Shape.{edition, shape}
 use Rattle.station_reader.specs.Classes.{count, name, double, unknown, range}
-use Rattle.station_reader.specs.Allowed.{StationRecord, allowed_list}
-use Rattle.station_reader.specs.Station.{IsStation}
+use Rattle.station.specs.Allowed.{StationRecord, allowed_list}
+use Rattle.station.specs.Station.{IsStation}
 use Rattle.station_reader.specs.Reading.{taken, judged, classes, patterns, station_record, reading_in, reading}
 use Rattle.station_reader.proofs.Whole.{reading-tree}
 use Rattle.station_gen.specs.declared.version.Version.{Version}

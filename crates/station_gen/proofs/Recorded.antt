@@ -5,19 +5,19 @@ use Rattle.std.specs.List.{list_any}
 use Rattle.serde_json.specs.Data.{Data}
 use Rattle.serde_json.specs.Find.{as_str}
 use Rattle.station_reader.specs.declared.member.Member.TheVariants.{Threshold, ConflictPrice, BufferPrice, Platforms, Paths, Incompatible, Trains, Prefer, Surcharges, From, To, Arrive, Depart}
-use Rattle.station_reader.specs.declared.part.Platform.{Platform}
-use Rattle.station_reader.specs.declared.part.Path.{Path}
-use Rattle.station_reader.specs.declared.part.PathPair.{PathPair}
-use Rattle.station_reader.specs.declared.part.PathWay.{PathWay}
-use Rattle.station_reader.specs.declared.part.PathWay.TheVariants.{In, Out}
-use Rattle.station_reader.specs.declared.part.Surcharge.{Surcharge}
-use Rattle.station_reader.specs.declared.part.Train.{Train}
+use Rattle.station.specs.declared.part.Platform.{Platform}
+use Rattle.station.specs.declared.part.Path.{Path}
+use Rattle.station.specs.declared.part.PathPair.{PathPair}
+use Rattle.station.specs.declared.part.PathWay.{PathWay}
+use Rattle.station.specs.declared.part.PathWay.TheVariants.{In, Out}
+use Rattle.station.specs.declared.part.Surcharge.{Surcharge}
+use Rattle.station.specs.declared.part.Train.{Train}
 use Rattle.station_reader.specs.Tree.{entries_at, texts, text_if, integer_at, natural, natural_at}
 use Rattle.station_reader.specs.Classes.{direction_names, platform_names, path_names, charged_name, charged_price}
-use Rattle.station_reader.specs.Allowed.{StationRecord}
-use Rattle.station_reader.specs.Station.{IsPath, IsPair, ArePlatforms, IsTrain, IsStation, charged}
+use Rattle.station.specs.Allowed.{StationRecord}
+use Rattle.station.specs.Station.{IsPath, IsPair, ArePlatforms, IsTrain, IsStation, charged}
 use Rattle.station_reader.specs.Reading.{number_of, way_of, platform_record, path_record, listed_pair, same_pair, pairs_below, incompatible_pairs, numbers_from, surcharges_from, train_record, station_record}
-use Rattle.station_reader.proofs.Lists.{length-made}
+use Rattle.station.proofs.Lists.{length-made}
 use Rattle.station_gen.specs.declared.version.Version.{Version}
 use Rattle.station_gen.specs.declared.version.Version.TheVariants.{One, Two}
 use Rattle.station_gen.specs.Json.{named_json, named_if_json, platform_names as platform_names_of, path_names as path_names_of, way_text, platform_json, path_json, pair_json, charge_json, train_json, station_json}

@@ -3,10 +3,10 @@ use Rattle.std.proofs.Common.{◌≡◌, ℕ, Bool, true, false, ◌&&◌, ◌==
 use borrow.Author.Tests.{eqb-true}
 use Rattle.std.specs.Prelude.{⊤}
 use Rattle.std.specs.List.{list_all}
-use Rattle.station_reader.specs.declared.part.Platform.{Platform}
-use Rattle.station_reader.specs.declared.part.Train.{Train}
-use Rattle.station_reader.specs.Allowed.{StationRecord}
-use Rattle.station_reader.proofs.Limits.{left, right}
+use Rattle.station.specs.declared.part.Platform.{Platform}
+use Rattle.station.specs.declared.part.Train.{Train}
+use Rattle.station.specs.Allowed.{StationRecord}
+use Rattle.station.proofs.Tests.{left, right}
 use Rattle.station_gen.specs.declared.version.Version.{Version}
 use Rattle.station_gen.specs.declared.version.Version.TheVariants.{One, Two}
 use Rattle.station_gen.specs.Json.{has_no_buffer, runs_through, version_of}

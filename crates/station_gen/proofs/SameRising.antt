@@ -1,7 +1,7 @@
 -- Two lists that rise by a key and have the same elements are one.
 use Rattle.std.proofs.Common.{◌≡◌, ℕ, suc, ◌<◌, List, [], ◌∷◌, map, Some, slice_get, refl, sym, ap, ◌∙◌, subst, arith, inl, inr, ◌⊎◌}
-use Rattle.station_reader.proofs.Among.{Among}
-use Rattle.station_reader.proofs.Lists.{Every, Rising}
+use Rattle.station.proofs.Among.{Among}
+use Rattle.station.proofs.Lists.{Every, Rising}
 
 pub every-of : {X : Type 0} (P : X → Type 0) (xs : List X) → Every P xs → (x : X) → Among xs x → P x
 every-of P [] all x h = absurd h

@@ -8,16 +8,16 @@ use Rattle.station_reader.specs.declared.place.Spot.{Spot}
 use Rattle.station_reader.specs.declared.place.Spot.TheVariants.{Of}
 use Rattle.station_reader.specs.declared.form.Edition.{Edition}
 use Rattle.station_reader.specs.declared.form.Kind.TheVariants.{Integer, Texts, Charges}
-use Rattle.station_reader.specs.declared.part.Platform.{Platform}
-use Rattle.station_reader.specs.declared.part.Path.{Path}
-use Rattle.station_reader.specs.declared.part.PathPair.{PathPair}
-use Rattle.station_reader.specs.declared.part.Surcharge.{Surcharge}
-use Rattle.station_reader.specs.declared.part.Train.{Train}
+use Rattle.station.specs.declared.part.Platform.{Platform}
+use Rattle.station.specs.declared.part.Path.{Path}
+use Rattle.station.specs.declared.part.PathPair.{PathPair}
+use Rattle.station.specs.declared.part.Surcharge.{Surcharge}
+use Rattle.station.specs.declared.part.Train.{Train}
 use Rattle.station_reader.specs.First.{unless, each, occurs}
 use Rattle.station_reader.specs.Tree.{at, entries_at, whole}
 use Rattle.station_reader.specs.Shape.{shape, is_object, has_only, integer_shape, list_shape, buffer_price_shape, direction_shape, pair_shape, item_shape, member_shape, members_shape, object_shape, kind_of, end_kind, platform_members, path_members, train_members}
-use Rattle.station_reader.specs.Allowed.{StationRecord}
-use Rattle.station_reader.proofs.Lists.{Every}
+use Rattle.station.specs.Allowed.{StationRecord}
+use Rattle.station.proofs.Lists.{Every}
 use Rattle.station_gen.specs.declared.version.Version.{Version}
 use Rattle.station_gen.specs.declared.version.Version.TheVariants.{One, Two}
 use Rattle.station_gen.specs.Json.{whole_json, minute_json, list_json, named_json, named_if_json, platform_names, platform_json, path_json, pair_json, charge_json, train_json, station_json}

@@ -8,17 +8,17 @@ use Rattle.json.specs.Print.{quoted}
 use Rattle.serde_json.specs.Data.{Data, string, boolean}
 use Rattle.serde_json.specs.View.{items_of}
 use Rattle.serde_json.specs.Written.{compact_text, comma_if, items_text, members_text}
-use Rattle.station_reader.specs.declared.part.Platform.{Platform}
-use Rattle.station_reader.specs.declared.part.Path.{Path}
-use Rattle.station_reader.specs.declared.part.PathWay.{PathWay}
-use Rattle.station_reader.specs.declared.part.PathWay.TheVariants.{In, Out}
-use Rattle.station_reader.specs.declared.part.PathPair.{PathPair}
-use Rattle.station_reader.specs.declared.part.Surcharge.{Surcharge}
-use Rattle.station_reader.specs.declared.part.Train.{Train}
-use Rattle.station_reader.specs.Named.{is_name, is_name_byte}
-use Rattle.station_reader.specs.Allowed.{StationRecord}
-use Rattle.station_reader.specs.Station.{IsPlatform, IsPath, IsTrain, IsStation}
-use Rattle.station_reader.proofs.Lists.{mapped, length-made}
+use Rattle.station.specs.declared.part.Platform.{Platform}
+use Rattle.station.specs.declared.part.Path.{Path}
+use Rattle.station.specs.declared.part.PathWay.{PathWay}
+use Rattle.station.specs.declared.part.PathWay.TheVariants.{In, Out}
+use Rattle.station.specs.declared.part.PathPair.{PathPair}
+use Rattle.station.specs.declared.part.Surcharge.{Surcharge}
+use Rattle.station.specs.declared.part.Train.{Train}
+use Rattle.station.specs.Named.{is_name, is_name_byte}
+use Rattle.station.specs.Allowed.{StationRecord}
+use Rattle.station.specs.Station.{IsPlatform, IsPath, IsTrain, IsStation}
+use Rattle.station.proofs.Lists.{mapped, length-made}
 use Rattle.station_gen.specs.declared.version.Version.{Version}
 use Rattle.station_gen.specs.declared.version.Version.TheVariants.{One, Two}
 use Rattle.station_gen.specs.Json.{whole_json, minute_json, list_json, members_json, object_json, named_json, named_if_json, platform_names, path_names, platforms_json, way_text, version_number, members_of_platform, platform_json, members_of_path, path_json, pair_json, charge_json, members_of_train, train_json, main_members, members_of_station, station_json}

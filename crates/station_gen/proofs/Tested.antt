@@ -1,9 +1,9 @@
 -- What a test that was computed over a list says of each element.
 use Rattle.std.proofs.Common.{◌≡◌, ℕ, zero, suc, ◌+◌, ◌<◌, List, [], ◌∷◌, map, Bool, true, Some, slice_get, ap, ◌∙◌, subst, arith, inl, inr}
 use Rattle.std.specs.List.{list_all, range_with_len}
-use Rattle.station_reader.specs.Allowed.{numbers}
-use Rattle.station_reader.proofs.Among.{Among, among-at, into-range}
-use Rattle.station_reader.proofs.Limits.{left, right}
+use Rattle.station.specs.Allowed.{numbers}
+use Rattle.station.proofs.Among.{Among, among-at, into-range}
+use Rattle.station.proofs.Tests.{left, right}
 
 pub passes-of : {X : Type 0} (test : X → Bool) (xs : List X) (x : X) → list_all test xs ≡ true → Among xs x → test x ≡ true
 passes-of test [] x all h = absurd h

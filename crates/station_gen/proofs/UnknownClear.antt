@@ -5,21 +5,21 @@ use Rattle.serde_json.specs.Data.{Data}
 use Rattle.serde_json.specs.Find.{as_str}
 use Rattle.station_reader.specs.declared.member.Member.{Member}
 use Rattle.station_reader.specs.declared.member.Member.TheVariants.{Platforms, Prefer, From, To}
-use Rattle.station_reader.specs.declared.part.Platform.{Platform}
-use Rattle.station_reader.specs.declared.part.Path.{Path}
-use Rattle.station_reader.specs.declared.part.PathPair.{PathPair}
-use Rattle.station_reader.specs.declared.part.PathWay.{PathWay}
-use Rattle.station_reader.specs.declared.part.PathWay.TheVariants.{In, Out}
-use Rattle.station_reader.specs.declared.part.Surcharge.{Surcharge}
-use Rattle.station_reader.specs.declared.part.Train.{Train}
+use Rattle.station.specs.declared.part.Platform.{Platform}
+use Rattle.station.specs.declared.part.Path.{Path}
+use Rattle.station.specs.declared.part.PathPair.{PathPair}
+use Rattle.station.specs.declared.part.PathWay.{PathWay}
+use Rattle.station.specs.declared.part.PathWay.TheVariants.{In, Out}
+use Rattle.station.specs.declared.part.Surcharge.{Surcharge}
+use Rattle.station.specs.declared.part.Train.{Train}
 use Rattle.station_reader.specs.First.{each, occurs}
 use Rattle.std.specs.List.{list_any}
 use Rattle.station_reader.specs.Tree.{text_if}
 use Rattle.station_reader.specs.Classes.{direction_names, platform_names, path_names, is_regular_named, is_regular, is_way, path_unknown, pair_unknown, end_unknown, item_unknown, charge_unknown, train_unknown, unknown}
-use Rattle.station_reader.specs.Allowed.{StationRecord}
-use Rattle.station_reader.specs.Station.{IsPath, IsPair, ArePlatforms, IsTrain, IsStation, charged}
+use Rattle.station.specs.Allowed.{StationRecord}
+use Rattle.station.specs.Station.{IsPath, IsPair, ArePlatforms, IsTrain, IsStation, charged}
 use Rattle.station_reader.proofs.Differ.{occurs-at}
-use Rattle.station_reader.proofs.Lists.{map-at, length-made}
+use Rattle.station.proofs.Lists.{map-at, length-made}
 use Rattle.station_gen.specs.declared.version.Version.{Version}
 use Rattle.station_gen.specs.declared.version.Version.TheVariants.{One, Two}
 use Rattle.station_gen.specs.Json.{named_json, named_if_json, platform_names as platform_names_of, path_names as path_names_of, way_text, platform_json, path_json, pair_json, charge_json, train_json, station_json}

@@ -1,12 +1,12 @@
 -- The generated station of a number and a count of trains.
 use Rattle.std.specs.Prelude.{ℕ, zero, suc, ◌+◌, ◌*◌, ◌/◌, ◌%◌, ◌^◌, List, [], ◌∷◌, ◌++◌, map, filter, flat_map, length, Bool, true, false, ◌&&◌, ◌==◌, Option, Some, None, slice_get, slice_index_or, codes, decimal, pos}
-use Rattle.station_reader.specs.declared.part.Platform.{Platform}
-use Rattle.station_reader.specs.declared.part.Path.{Path}
-use Rattle.station_reader.specs.declared.part.PathWay.{PathWay}
-use Rattle.station_reader.specs.declared.part.PathWay.TheVariants.{In, Out}
-use Rattle.station_reader.specs.declared.part.PathPair.{PathPair}
-use Rattle.station_reader.specs.declared.part.Train.{Train}
-use Rattle.station_reader.specs.Allowed.{StationRecord, numbers, same_way}
+use Rattle.station.specs.declared.part.Platform.{Platform}
+use Rattle.station.specs.declared.part.Path.{Path}
+use Rattle.station.specs.declared.part.PathWay.{PathWay}
+use Rattle.station.specs.declared.part.PathWay.TheVariants.{In, Out}
+use Rattle.station.specs.declared.part.PathPair.{PathPair}
+use Rattle.station.specs.declared.part.Train.{Train}
+use Rattle.station.specs.Allowed.{StationRecord, numbers, same_way}
 use Rattle.station_reader.specs.Reading.{pairs_below}
 
 -- ---- draws

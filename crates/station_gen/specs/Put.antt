@@ -1,8 +1,8 @@
 -- Members that go into an object together. For private clauses.
 use Rattle.std.specs.Prelude.{codes, map}
 use Rattle.serde_json.specs.Data.{Members, string, put}
-use Rattle.station_reader.specs.declared.part.Train.{Train}
-use Rattle.station_reader.specs.Allowed.{StationRecord}
+use Rattle.station.specs.declared.part.Train.{Train}
+use Rattle.station.specs.Allowed.{StationRecord}
 use Rattle.station_gen.specs.Json.{whole_json, minute_json, named_if_json, platforms_json, list_json, charge_json, version_number, train_json, platform_json, path_json, pair_json}
 use Rattle.station_gen.specs.declared.version.Version.{Version}
 

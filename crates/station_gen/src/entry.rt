@@ -2,15 +2,15 @@
 ghost use Rattle.std.specs.Prelude.{◌≡◌, IfOk, map, ◌∷◌, []};
 ghost use Rattle.serde_json.specs.Data.{Data, string};
 ghost use Rattle.serde_json.specs.View.{view, members_view};
-ghost use Rattle.station_reader.specs.Allowed.{StationRecord};
-ghost use Rattle.station_reader.specs.Shown.{record_of};
+ghost use Rattle.station.specs.Allowed.{StationRecord};
+ghost use Rattle.station.specs.Shown.{record_of};
 ghost use Rattle.station_gen.specs.declared.version.Version.{Version};
 ghost use Rattle.station_gen.specs.Json.{list_json, members_json, named_json, platform_names, buffer_json, platform_json, way_text, path_json, pair_json, charge_json};
 
 use crate::named::{direction_name, path_name, platform_name, text_of};
 use crate::version::Version;
 use serde_json::{Map, Value, put};
-use station_reader::{Name, Path, PathPair, PathWay, Platform, Station, Surcharge};
+use station::{Name, Path, PathPair, PathWay, Platform, Station, Surcharge};
 use std::alloc::{AllocError, Global};
 
 /// An object that is being made.

@@ -1,5 +1,5 @@
 ghost use Rattle.std.specs.Prelude.{◌≡◌, ◌≤◌, IfOk};
-ghost use Rattle.station_reader.specs.Shown.{record_of};
+ghost use Rattle.station.specs.Shown.{record_of};
 ghost use Rattle.station_gen.specs.declared.version.Version.TheVariants.{One};
 ghost use Rattle.station_gen.specs.Json.{version_of};
 ghost use Rattle.station_gen.specs.Made.{made_station};
@@ -7,7 +7,7 @@ ghost use Rattle.station_gen.specs.Made.{made_station};
 use crate::pairs::alike_pairs;
 use crate::parts::{directions, paths, platforms};
 use crate::trains::drawn_trains;
-use station_reader::Station;
+use station::Station;
 use std::alloc::{AllocError, Global};
 
 /// The generated station of a number, with so many trains ("The generator" in docs/FORMATS.md).

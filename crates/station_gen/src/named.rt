@@ -1,11 +1,11 @@
 // The names that numbers stand for, as text.
 ghost use Rattle.std.specs.Prelude.{◌≡◌, IfOk, [], slice_index_or};
 ghost use Rattle.serde_json.specs.View.{view};
-ghost use Rattle.station_reader.specs.Shown.{record_of};
+ghost use Rattle.station.specs.Shown.{record_of};
 ghost use Rattle.station_gen.specs.Json.{named_if_json, platform_names, path_names};
 
 use serde_json::Value;
-use station_reader::{Name, Station};
+use station::{Name, Station};
 use std::alloc::{AllocError, Global};
 
 pub(crate) fn text_of(name: &Name) -> &str

@@ -3,7 +3,8 @@ ghost use Rattle.std.specs.Prelude.{◌≡◌, ◌≤◌, ◌<◌, ◌++◌, IfO
 ghost use Rattle.station_reader.specs.Reading.{pairs_with};
 ghost use Rattle.station_gen.specs.Made.{is_alike_pair, alike_pairs};
 
-use station_reader::{Path, PathPair, Sequence};
+use sequence::Sequence;
+use station::{Path, PathPair};
 use std::alloc::{AllocError, Global};
 
 /// Every two paths of the same direction and the same way, ascending.

@@ -2,7 +2,8 @@
 ghost use Rattle.std.specs.Prelude.{◌≡◌, ◌<◌, ◌++◌, [], IfOk, OnOk, slice_index_or, decimal, ◌+◌};
 ghost use Rattle.station_gen.specs.Made.{made_directions, regular, dummy, made_platforms, letter, path_name, made_path, paths_between, paths_of, made_paths};
 
-use station_reader::{Name, Path, PathWay, Platform, Sequence};
+use sequence::Sequence;
+use station::{Name, Path, PathWay, Platform};
 use std::alloc::{AllocError, Global};
 
 const DIRECTIONS: u8 = 4;

@@ -3,7 +3,7 @@ ghost use Rattle.std.specs.Prelude.{◌≡◌, IfOk, OnOk, string_bytes};
 ghost use Rattle.std.specs.Str.{IsUtf8};
 ghost use Rattle.serde_json.specs.View.{view, members_view};
 ghost use Rattle.serde_json.specs.Written.{compact_text};
-ghost use Rattle.station_reader.specs.Shown.{record_of};
+ghost use Rattle.station.specs.Shown.{record_of};
 ghost use Rattle.station_reader.specs.Reading.{reading, taken};
 ghost use Rattle.station_gen.specs.Json.{members_json, buffer_price_json, station_json, json_of};
 ghost use Rattle.station_gen.specs.Put.{with_limits, with_lists_of};
@@ -11,7 +11,7 @@ ghost use Rattle.station_gen.specs.Put.{with_limits, with_lists_of};
 use crate::entry::{Members, list_json};
 use crate::version::{Version, version_of};
 use serde_json::{Map, Value, put};
-use station_reader::Station;
+use station::Station;
 use std::alloc::{AllocError, Global};
 
 /// The station as compact JSON ("The instance as it is written" in docs/FORMATS.md): members in ascending order of

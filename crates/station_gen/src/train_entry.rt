@@ -1,7 +1,7 @@
 // The JSON tree of a train.
 ghost use Rattle.std.specs.Prelude.{◌≡◌, IfOk, OnOk};
 ghost use Rattle.serde_json.specs.View.{view, members_view};
-ghost use Rattle.station_reader.specs.Shown.{record_of};
+ghost use Rattle.station.specs.Shown.{record_of};
 ghost use Rattle.station_gen.specs.Json.{train_json};
 ghost use Rattle.station_gen.specs.Put.{with_times, with_shifts, with_prices, with_names, with_lists};
 
@@ -9,7 +9,7 @@ use crate::entry::{Entry, Members, list_json};
 use crate::named::{direction_json, text_of};
 use crate::version::Version;
 use serde_json::{Map, Value, put};
-use station_reader::{Station, Train};
+use station::{Station, Train};
 use std::alloc::{AllocError, Global};
 
 impl Entry for Train {

@@ -1,10 +1,11 @@
 // The trains, which are drawn.
 ghost use Rattle.std.specs.Prelude.{◌≡◌, ◌<◌, ◌≤◌, ◌∷◌, ◌++◌, [], codes, decimal, IfOk};
-ghost use Rattle.station_reader.specs.Allowed.{numbers};
+ghost use Rattle.station.specs.Allowed.{numbers};
 ghost use Rattle.station_gen.specs.Made.{next, made_train, made_trains};
 
 use crate::generator::Generator;
-use station_reader::{Name, Sequence, Train};
+use sequence::Sequence;
+use station::{Name, Train};
 use std::alloc::{AllocError, Global};
 
 pub(crate) fn drawn_trains(

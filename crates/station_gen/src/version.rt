@@ -1,9 +1,9 @@
 ghost use Rattle.std.specs.Prelude.{◌≡◌};
 ghost use Rattle.std.specs.List.{list_all};
-ghost use Rattle.station_reader.specs.Shown.{record_of};
+ghost use Rattle.station.specs.Shown.{record_of};
 ghost use Rattle.station_gen.specs.Json.{has_no_buffer, runs_through, version_of, version_number};
 
-use station_reader::{Platform, Station, Train};
+use station::{Platform, Station, Train};
 
 /// The versions of the format.
 #[derive(Clone, Copy, PartialEq, Eq, Debug, Drop)]

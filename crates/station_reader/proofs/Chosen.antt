@@ -3,16 +3,16 @@ use Rattle.std.proofs.Common.{◌≡◌, ℕ, zero, suc, ◌+◌, ◌<◌, ◌�
 use Rattle.std.specs.Prelude.{flat_map}
 use Rattle.std.specs.List.{range_with_len, cons_option}
 use Rattle.serde_json.specs.Data.{Data}
-use Rattle.station_reader.specs.declared.part.PathPair.{PathPair}
-use Rattle.station_reader.specs.declared.part.Surcharge.{Surcharge}
+use Rattle.station.specs.declared.part.PathPair.{PathPair}
+use Rattle.station.specs.declared.part.Surcharge.{Surcharge}
 use Rattle.station_reader.specs.declared.member.Member.TheVariants.{Surcharges}
 use Rattle.station_reader.specs.First.{occurs}
-use Rattle.station_reader.specs.Station.{charged, IsBefore}
+use Rattle.station.specs.Station.{charged, IsBefore}
 use Rattle.station_reader.specs.Classes.{charged_name, charged_price}
 use Rattle.station_reader.specs.Passes.{Each, ChargePasses}
 use Rattle.station_reader.specs.Tree.{natural}
 use Rattle.station_reader.specs.Reading.{numbers_from, charge_of, surcharges_from, pairs_with}
-use Rattle.station_reader.proofs.Lists.{Every, Rising, every-weaker, every-append, rising-append, chosen-every, chosen-rising}
+use Rattle.station.proofs.Lists.{Every, Rising, every-weaker, every-append, rising-append, chosen-every, chosen-rising}
 use Rattle.station_reader.proofs.Limits.{natural-most}
 
 -- ---- the platforms of a train

@@ -7,7 +7,7 @@ use Rattle.station_reader.specs.declared.form.Edition.{Edition}
 use Rattle.station_reader.specs.declared.member.Member.{Member}
 use Rattle.station_reader.specs.declared.member.Member.TheVariants.{Threshold, ConflictPrice, BufferPrice, Directions, Platforms, Paths, Incompatible, Trains, Name, From, To, Surcharges}
 use Rattle.station_reader.specs.First.{or_else, unless, each, each_from, occurs}
-use Rattle.station_reader.specs.Named.{is_name}
+use Rattle.station.specs.Named.{is_name}
 use Rattle.station_reader.specs.Tree.{entries, entries_at, text, text_at, text_if}
 use Rattle.station_reader.specs.Classes.{list_count, train_count, count, direction_name, entry_name, name, unknown, range, station_range, direction_names, path_names, path_unknown, part_unknown, pair_unknown, end_unknown, train_unknown, platform_range, path_range, charge_range, train_range}
 use Rattle.station_reader.specs.Passes.{IsClear, Each, AreFew, PlatformPasses, PathPasses, PairPasses, TrainPasses, TreePasses}

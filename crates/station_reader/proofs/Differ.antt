@@ -1,16 +1,13 @@
 -- Names of which none stands again differ.
-use Rattle.std.proofs.Common.{◌≡◌, ℕ, zero, suc, ◌<◌, List, [], ◌∷◌, take, Bool, true, false, not, ◌||◌, Option, Some, None, option_map, slice_get, refl, sym, ap, ◌∙◌, arith, true≢false, bytes_eq, inl, inr, ◌⊎◌}
+use Rattle.std.proofs.Common.{◌≡◌, ℕ, zero, suc, ◌<◌, List, [], ◌∷◌, take, Bool, true, false, not, Option, Some, None, option_map, slice_get, refl, sym, ap, ◌∙◌, arith, true≢false, bytes_eq, inl, inr, ◌⊎◌}
 use Rattle.std.proofs.lemmas.Slice.Eq.{bytes_eq-Decides}
 use Rattle.station_reader.specs.First.{unless, occurs}
 use Rattle.station_reader.specs.Classes.{repeat, again}
 use Rattle.station_reader.specs.Passes.{AllNew}
-use Rattle.station_reader.specs.Station.{AllDiffer}
+use Rattle.station.specs.Station.{AllDiffer}
 use Rattle.station_reader.specs.declared.place.Spot.{Spot}
 use Rattle.station_reader.proofs.Clear.{holds, each-none}
-
-pub or_right : (a b : Bool) → b ≡ true → (a || b) ≡ true
-or_right true b e = refl
-or_right false b e = e
+use Rattle.station.proofs.Tests.{or_right}
 
 pub occurs-take : (n : List ℕ) (ns : List (List ℕ)) (i j : ℕ) → i < j → slice_get ns i ≡ Some n → occurs n (take j ns) ≡ true
 unfolding occurs

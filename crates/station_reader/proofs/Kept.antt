@@ -10,21 +10,22 @@ use Rattle.serde_json.specs.Data.{Data}
 use Rattle.station_reader.specs.declared.form.Edition.{Edition}
 use Rattle.station_reader.specs.declared.place.Spot.TheVariants.{Entry, Field}
 use Rattle.station_reader.specs.declared.member.Member.TheVariants.{Threshold, ConflictPrice, BufferPrice, Directions, Platforms, Paths, Trains, Name, Dummy, Price, Headway, Buffer, Direction, Platform as PlatformMember, Minutes, From, To, Arrive, Depart, Dwell, ArriveEarly, ArriveLate, DepartEarly, DepartLate, Prefer, OffPrice, ShiftPrice, Surcharges}
-use Rattle.station_reader.specs.declared.part.Platform.{Platform}
-use Rattle.station_reader.specs.declared.part.PathPair.{PathPair}
-use Rattle.station_reader.specs.declared.part.Train.{Train}
-use Rattle.station_reader.specs.Named.{is_name}
+use Rattle.station.specs.declared.part.Platform.{Platform}
+use Rattle.station.specs.declared.part.PathPair.{PathPair}
+use Rattle.station.specs.declared.part.Train.{Train}
+use Rattle.station.specs.Named.{is_name}
 use Rattle.station_reader.specs.First.{unless, each, occurs}
 use Rattle.station_reader.specs.Tree.{entries_at, text, texts, text_at, text_if, integer_at, truth_at}
-use Rattle.station_reader.specs.Allowed.{allowed_list}
-use Rattle.station_reader.specs.Station.{AllDiffer, IsPlatform, IsPath, IsPair, ArePlatforms, charged, IsTrain, IsBefore, IsStation}
-use Rattle.station_reader.specs.Counted.{IsTimed}
+use Rattle.station.specs.Allowed.{allowed_list}
+use Rattle.station.specs.Station.{AllDiffer, IsPlatform, IsPath, IsPair, ArePlatforms, charged, IsTrain, IsBefore, IsStation}
+use Rattle.station.specs.Counted.{IsTimed}
 use Rattle.station_reader.specs.Classes.{again, double, names, direction_names, platform_names, path_names, train_double, is_regular_named}
 use Rattle.station_reader.specs.Passes.{AllNew, IsClear, Each, PlatformPasses, PathPasses, TrainPasses, TreePasses}
 use Rattle.station_reader.specs.Reading.{number_of, platform_record, path_record, train_record, numbers_from, surcharges_from, is_listed, pairs_with, pairs_below, incompatible_pairs, station_record, patterns}
 use Rattle.station_reader.proofs.Clear.{both, holds, each-none, passes, some_declared}
-use Rattle.station_reader.proofs.Limits.{left, right, natural-most, natural-least, integer-least, integer-most}
-use Rattle.station_reader.proofs.Lists.{Every, Rising, every-at, rising-at, every-filter, rising-filter, mapped, map-at, length-made, any-found}
+use Rattle.station.proofs.Tests.{left, right}
+use Rattle.station_reader.proofs.Limits.{natural-most, natural-least, integer-least, integer-most}
+use Rattle.station.proofs.Lists.{Every, Rising, every-at, rising-at, every-filter, rising-filter, mapped, map-at, length-made, any-found}
 use Rattle.station_reader.proofs.Chosen.{Between, numbers_between, numbers_rising, numbers_length, charges_between, charges_rising, charges_length, charges_cheap, IsPairFrom, rows_within, rows_rising}
 use Rattle.station_reader.proofs.Numbered.{number_of-declared, number_of-named}
 use Rattle.station_reader.proofs.Differ.{new-from_again, differ, new-is, occurs-at}

@@ -1,18 +1,11 @@
 -- What it means that an integer is within its limits.
-use Rattle.std.proofs.Common.{◌≡◌, ◌≤◌, Bool, true, false, ◌&&◌, refl, sym, arith, nat_le, true≢false, ℤ, pos, negsuc, ◌≤ℤ◌}
+use Rattle.std.proofs.Common.{◌≡◌, ◌≤◌, true, false, sym, arith, nat_le, true≢false, ℤ, pos, negsuc, ◌≤ℤ◌}
 use Rattle.std.proofs.lemmas.Int.{ints}
 use borrow.Author.Tests.{leb-true}
 use Rattle.station_reader.specs.declared.member.Member.{Member}
 use Rattle.station_reader.specs.Tree.{natural}
 use Rattle.station_reader.specs.Classes.{least, most, within}
-
-pub left : (a b : Bool) → (a && b) ≡ true → a ≡ true
-left true b e = refl
-left false b e = absurd (true≢false (sym e))
-
-pub right : (a b : Bool) → (a && b) ≡ true → b ≡ true
-right true b e = e
-right false b e = absurd (true≢false (sym e))
+use Rattle.station.proofs.Tests.{left, right}
 
 pub natural-most : (m : Member) (z : ℤ) → within m z ≡ true → natural z ≤ most m
 natural-most m (pos n) h = leb-true n (most m) (right _ _ h)

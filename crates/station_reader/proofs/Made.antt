@@ -8,7 +8,7 @@ use Rattle.serde_json.specs.declared.value.Value.{Value}
 use Rattle.station_reader.specs.declared.form.Naming.{Naming}
 use Rattle.station_reader.specs.Naming.{named}
 use Rattle.station_reader.specs.Passes.{Each}
-use Rattle.station_reader.proofs.Lists.{position-made}
+use Rattle.station.proofs.Lists.{position-made}
 
 pub slice_get-view : (vs : List Value) (i : ℕ) (v : Value) → i < length vs → v ≡ get_or vs i v → slice_get (map view vs) i ≡ Some (view v)
 slice_get-view [] i v h is = absurd (omega arith)

@@ -2,10 +2,10 @@
 use Rattle.std.proofs.Common.{◌≡◌, ℕ, ◌≤◌, List, [], ◌∷◌, Bool, cond, refl, arith}
 use Rattle.std.specs.Prelude.{filter}
 use Rattle.std.specs.List.{list_any}
-use Rattle.station_reader.specs.declared.part.PathPair.{PathPair}
+use Rattle.station.specs.declared.part.PathPair.{PathPair}
 use Rattle.station_reader.specs.Reading.{same_pair, pairs_below}
 use Rattle.station_reader.specs.Marked.{is_marked, MarksListed}
-use Rattle.station_reader.proofs.Lists.{Every}
+use Rattle.station.proofs.Lists.{Every}
 use Rattle.station_reader.proofs.Chosen.{IsPairFrom, rows_within}
 
 one_alike : {X : Type 0} (a b : Bool) (x : X) (xs ys : List X) → a ≡ b → xs ≡ ys → cond a (x ∷ xs) xs ≡ cond b (x ∷ ys) ys

@@ -6,7 +6,7 @@ use Rattle.std.proofs.lemmas.List.Elements.{filter-append}
 use Rattle.serde_json.specs.View.{view}
 use Rattle.serde_json.specs.declared.value.Value.{Value}
 use Rattle.station_reader.specs.Classes.{names}
-use Rattle.station_reader.specs.declared.part.PathPair.{PathPair}
+use Rattle.station.specs.declared.part.PathPair.{PathPair}
 use Rattle.station_reader.specs.Reading.{pairs_with}
 
 -- the pairs of first with n numbers from second on that pass

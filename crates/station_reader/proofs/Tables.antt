@@ -10,7 +10,7 @@ use Rattle.station_reader.specs.declared.form.Naming.{Naming}
 use Rattle.station_reader.specs.First.{occurs}
 use Rattle.station_reader.specs.Naming.{named}
 use Rattle.station_reader.specs.Passes.{AllNew}
-use Rattle.station_reader.proofs.Lists.{any-made, map-at}
+use Rattle.station.proofs.Lists.{any-made, map-at}
 use Rattle.station_reader.proofs.Made.{slice_get-view, made-step}
 use Rattle.station_reader.proofs.Repeats.{names_seen-take}
 

@@ -1,15 +1,15 @@
 -- The first train with too many patterns.
 use Rattle.std.proofs.Common.{◌≡◌, ℕ, suc, ◌+◌, ◌<◌, List, [], ◌∷◌, length, drop, get_or, Option, Some, None, refl, ap, add-one, drop-cons, nat_le, zero, arith, sym, slice_get, ◌≤◌, true}
 use Rattle.std.proofs.lemmas.Bool.Decides.{nat_tests}
-use Rattle.station_reader.specs.declared.part.Train.{Train}
+use Rattle.station.specs.declared.part.Train.{Train}
 use Rattle.station_reader.specs.declared.place.Spot.{Spot}
 use Rattle.station_reader.specs.declared.place.Spot.TheVariants.{Entry}
 use Rattle.station_reader.specs.declared.member.Member.TheVariants.{Trains}
 use Rattle.station_reader.specs.First.{each_from, unless}
-use Rattle.station_reader.specs.Allowed.{StationRecord, allowed_list}
-use Rattle.station_reader.specs.Counted.{too_many}
+use Rattle.station.specs.Allowed.{StationRecord, allowed_list}
+use Rattle.station_reader.specs.TooMany.{too_many}
 use Rattle.station_reader.specs.Reading.{patterns}
-use Rattle.station_reader.proofs.Counts.{length-allowed_list}
+use Rattle.station.proofs.Counts.{length-allowed_list}
 
 too_many_from : (r : StationRecord) (n : ℕ) (ts : List Train)
     → each_from (λ i t. unless (nat_le (length (allowed_list r t)) 4096) (Entry Trains i)) n ts ≡ each_from (too_many r.paths r.platforms) n ts

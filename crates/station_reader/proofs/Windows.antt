@@ -1,7 +1,7 @@
 -- The minutes of a window, one after another.
 use Rattle.std.proofs.Common.{◌≡◌, ℕ, suc, ◌+◌, ◌-◌, ◌<◌, List, ◌∷◌, map, ℤ, pos, ◌+ℤ◌, ◌-ℤ◌, arith, Bool, true, false, cond, ◌≤◌, ◌≤ℤ◌, ◌<ℤ◌, int_le, rules}
 use Rattle.std.specs.List.{range_with_len}
-use Rattle.station_reader.specs.Allowed.{window}
+use Rattle.station.specs.Allowed.{window}
 
 -- the minutes from place i on
 abbrev pub rest : ℤ → ℕ → ℕ → ℕ → List ℤ

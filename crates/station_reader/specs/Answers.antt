@@ -3,8 +3,8 @@ use Rattle.std.specs.Prelude.{◌≡◌, ℕ, List, Result, Ok, Err, ⊤}
 use Rattle.station_reader.specs.declared.refusal.RefusedKind.{RefusedKind}
 use Rattle.station_reader.specs.declared.refusal.StationFault.{StationFault}
 use Rattle.station_reader.specs.declared.refusal.StationFault.TheVariants.{Memory, Refused as RefusedFault}
-use Rattle.station_reader.specs.declared.station.Station.{Station}
-use Rattle.station_reader.specs.Shown.{record_of}
+use Rattle.station.specs.declared.station.Station.{Station}
+use Rattle.station.specs.Shown.{record_of}
 use Rattle.station_reader.specs.Reading.{Reading, taken, refused}
 
 -- A station only where the text is read as it, a refusal only where the text has that kind and place. Want of memory may come at any text.

@@ -6,7 +6,7 @@ use Rattle.station_reader.specs.declared.member.Member.{Member}
 use Rattle.station_reader.specs.declared.member.Member.TheVariants.{Threshold, ConflictPrice, BufferPrice, Directions, Platforms, Paths, Incompatible, Trains, Name, Dummy, Price, Headway, Buffer, Direction, Platform, Way, Minutes, From, To, Arrive, Depart, Dwell, ArriveEarly, ArriveLate, DepartEarly, DepartLate, Prefer, OffPrice, ShiftPrice, Surcharges}
 use Rattle.station_reader.specs.declared.place.Spot.{Spot}
 use Rattle.station_reader.specs.declared.place.Spot.TheVariants.{Of, Entry, Part, Field, Item, ItemPart}
-use Rattle.station_reader.specs.Named.{is_name}
+use Rattle.station.specs.Named.{is_name}
 use Rattle.station_reader.specs.Tree.{entries, entries_at, text, texts, text_at, text_if, integer, integer_at, truth_at}
 use Rattle.station_reader.specs.First.{first, unless, each, occurs}
 

@@ -1,7 +1,7 @@
 -- Marks of pairs of paths, 500 in a row: the mark of i and j has the place 500 i + j.
 use Rattle.std.specs.Prelude.{◌≡◌, ℕ, ◌+◌, ◌*◌, ◌<◌, List, Bool, false, slice_index_or}
 use Rattle.std.specs.List.{list_any}
-use Rattle.station_reader.specs.declared.part.PathPair.{PathPair}
+use Rattle.station.specs.declared.part.PathPair.{PathPair}
 use Rattle.station_reader.specs.Reading.{same_pair}
 
 abbrev pub is_marked : List Bool → PathPair → Bool

@@ -3,7 +3,7 @@ use Rattle.std.specs.Prelude.{◌≡◌, ℕ, ◌≤◌, List, length, take, fal
 use Rattle.serde_json.specs.Data.{Data}
 use Rattle.station_reader.specs.declared.form.Edition.{Edition}
 use Rattle.station_reader.specs.declared.member.Member.TheVariants.{Threshold, ConflictPrice, BufferPrice, Directions, Platforms, Paths, Incompatible, Trains, Name, Price, Headway, Buffer, Direction, Platform, Minutes, From, To, Arrive, Depart, Dwell, ArriveEarly, ArriveLate, DepartEarly, DepartLate, OffPrice, ShiftPrice, Surcharges}
-use Rattle.station_reader.specs.Named.{is_name}
+use Rattle.station.specs.Named.{is_name}
 use Rattle.station_reader.specs.Tree.{entries, entries_at, text, text_at, text_if, integer_at}
 use Rattle.station_reader.specs.First.{occurs}
 use Rattle.station_reader.specs.Shape.{shape}

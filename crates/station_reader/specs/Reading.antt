@@ -9,20 +9,20 @@ use Rattle.station_reader.specs.declared.place.Spot.{Spot}
 use Rattle.station_reader.specs.declared.place.Spot.TheVariants.{Top, Entry}
 use Rattle.station_reader.specs.declared.refusal.RefusedKind.{RefusedKind}
 use Rattle.station_reader.specs.declared.refusal.RefusedKind.TheVariants.{Long, NotJson, Version, Shape, Count, Name as NameKind, Double, Unknown, Range, Patterns}
-use Rattle.station_reader.specs.declared.part.Platform.{Platform}
-use Rattle.station_reader.specs.declared.part.Path.{Path}
-use Rattle.station_reader.specs.declared.part.PathWay.{PathWay}
-use Rattle.station_reader.specs.declared.part.PathWay.TheVariants.{In, Out}
-use Rattle.station_reader.specs.declared.part.PathPair.{PathPair}
-use Rattle.station_reader.specs.declared.part.Surcharge.{Surcharge}
-use Rattle.station_reader.specs.declared.part.Train.{Train}
+use Rattle.station.specs.declared.part.Platform.{Platform}
+use Rattle.station.specs.declared.part.Path.{Path}
+use Rattle.station.specs.declared.part.PathWay.{PathWay}
+use Rattle.station.specs.declared.part.PathWay.TheVariants.{In, Out}
+use Rattle.station.specs.declared.part.PathPair.{PathPair}
+use Rattle.station.specs.declared.part.Surcharge.{Surcharge}
+use Rattle.station.specs.declared.part.Train.{Train}
 use Rattle.station_reader.specs.declared.form.Edition.{Edition}
 use Rattle.station_reader.specs.PlaceText.{spot_text}
 use Rattle.station_reader.specs.Tree.{entries, entries_at, text, texts, text_at, text_if, integer_at, natural, natural_at, truth_at}
 use Rattle.station_reader.specs.First.{unless, each, occurs}
 use Rattle.station_reader.specs.Shape.{edition, shape}
 use Rattle.station_reader.specs.Classes.{count, name, double, unknown, range, direction_names, platform_names, path_names, first_text, charged_name, charged_price}
-use Rattle.station_reader.specs.Allowed.{StationRecord, allowed_list}
+use Rattle.station.specs.Allowed.{StationRecord, allowed_list}
 
 -- ---- the record, with names replaced by their numbers
 

@@ -1,7 +1,7 @@
 // Parts of a station, made from entries that passed the classes.
 ghost use Rattle.std.specs.Prelude.{◌≡◌, IfOk, IsTrue, map};
 ghost use Rattle.serde_json.specs.View.{view};
-ghost use Rattle.station_reader.specs.Named.{is_name};
+ghost use Rattle.station.specs.Named.{is_name};
 ghost use Rattle.station_reader.specs.Naming.{named};
 ghost use Rattle.station_reader.specs.Tree.{text, texts, natural, natural_at as natural_of_member, integer_at};
 ghost use Rattle.station_reader.specs.Classes.{within};
@@ -10,12 +10,11 @@ ghost use Rattle.station_reader.specs.Passes.{Each, PlatformPasses};
 
 use crate::form::Naming;
 use crate::member::Member;
-use crate::name::Name;
 use crate::names::name_in;
-use crate::part::Platform;
-use crate::sequence::Sequence;
 use crate::tree::{integer_at, text, text_at, truth_at};
+use sequence::Sequence;
 use serde_json::Value;
+use station::{Name, Platform};
 use std::alloc::{AllocError, Global};
 
 pub(crate) fn natural_at(member: Member, entry: &Value) -> u32

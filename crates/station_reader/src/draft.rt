@@ -8,15 +8,14 @@ ghost use Rattle.station_reader.specs.Reading.{station_record};
 
 use crate::convert::{directions, natural_at, platforms};
 use crate::member::Member;
-use crate::name::Name;
 use crate::name_table::NameTable;
 use crate::pairs::incompatible_pairs;
-use crate::part::{Path, PathPair, Platform, Train};
 use crate::paths::paths;
-use crate::sequence::Sequence;
 use crate::trains::trains;
 use crate::tree::entries_at;
+use sequence::Sequence;
 use serde_json::Value;
+use station::{Name, Path, PathPair, Platform, Train};
 use std::alloc::{AllocError, Global};
 
 /// A station's parts before the patterns of its trains are counted.

@@ -1,10 +1,10 @@
 // Which pairs of paths are listed as incompatible.
 ghost use Rattle.std.specs.Prelude.{◌≡◌, ◌||◌, length, IfOk};
-ghost use Rattle.station_reader.specs.declared.part.PathPair.{PathPair};
+ghost use Rattle.station.specs.declared.part.PathPair.{PathPair};
 ghost use Rattle.station_reader.specs.Reading.{same_pair};
 ghost use Rattle.station_reader.specs.Marked.{is_marked, AreUnmarked, IsNumbered};
 
-use crate::part::PathPair;
+use station::PathPair;
 use std::alloc::{AllocError, Global};
 use std::marker::Model;
 

@@ -11,10 +11,10 @@ use crate::member::Member;
 use crate::name_table::NameTable;
 use crate::names::name_in;
 use crate::pair_table::PairTable;
-use crate::part::PathPair;
-use crate::sequence::Sequence;
 use crate::tree::{entries, entries_at, text};
+use sequence::Sequence;
 use serde_json::Value;
+use station::PathPair;
 use std::alloc::{AllocError, Global};
 
 /// The listed pairs of two different paths, ascending, each once.

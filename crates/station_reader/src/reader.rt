@@ -6,9 +6,9 @@ ghost use Rattle.station_reader.specs.Shape.{edition};
 ghost use Rattle.station_reader.specs.Reading.{reading, reading_in, judged, classes, station_record, refused};
 ghost use Rattle.station_reader.specs.Classes.{path_names};
 ghost use Rattle.station_reader.specs.Passes.{IsNamed, IsClear};
-ghost use Rattle.station_reader.specs.Station.{IsStation};
+ghost use Rattle.station.specs.Station.{IsStation};
 ghost use Rattle.station_reader.specs.Drafted.{draft_record};
-ghost use Rattle.station_reader.specs.Shown.{record_of};
+ghost use Rattle.station.specs.Shown.{record_of};
 ghost use Rattle.station_reader.specs.Answers.{Answers, IsRefusal};
 
 use crate::count::count;
@@ -22,10 +22,10 @@ use crate::place::{Place, Spot};
 use crate::range::range;
 use crate::refusal::{Refused, RefusedKind, StationFault};
 use crate::shape::{edition, shape};
-use crate::station::Station;
 use crate::tree::entries_at;
 use crate::unknown::unknown;
 use serde_json::Value;
+use station::Station;
 use std::alloc::Global;
 
 /// The most bytes of a text.

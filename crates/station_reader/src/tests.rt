@@ -1,4 +1,5 @@
-use crate::{Name, PathPair, Station, StationFault, Surcharge, read_station};
+use crate::{StationFault, read_station};
+use station::{Name, PathPair, Station, Surcharge};
 use std::alloc::{AllocError, Global};
 use std::test::Fail;
 

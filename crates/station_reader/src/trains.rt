@@ -10,11 +10,11 @@ use crate::convert::{name_at, natural, natural_at, number_of};
 use crate::form::Naming;
 use crate::member::Member;
 use crate::names::{name_in, occurs};
-use crate::part::{Surcharge, Train};
 use crate::range::charged_price;
-use crate::sequence::Sequence;
 use crate::tree::{entries_at, integer_at, text_at, text_if};
+use sequence::Sequence;
 use serde_json::Value;
+use station::{Surcharge, Train};
 use std::alloc::{AllocError, Global};
 
 pub(crate) fn trains(alloc: Global, tree: &Value) -> Result<Sequence<Train>, AllocError>

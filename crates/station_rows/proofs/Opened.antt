@@ -5,7 +5,7 @@ use Rattle.std.specs.List.{range_with_len}
 use Rattle.std.proofs.lemmas.Int.{ints}
 use Rattle.std.proofs.lemmas.Bool.{eq-eqb, ne_eqb}
 use Rattle.std.proofs.lemmas.List.{get_or_append_left, get_or_push}
-use Rattle.station_reader.specs.Allowed.{numbers}
+use Rattle.station.specs.Allowed.{numbers}
 use Rattle.ratio.proofs.Ring.{mul_comm_ℤ}
 use Rattle.exact_lp.specs.declared.row.Row.{Row}
 use Rattle.exact_lp.specs.declared.row.RowCell.{RowCell}

@@ -4,7 +4,7 @@ use Rattle.std.specs.Prelude.{slice_get, sum_by}
 use Rattle.std.specs.List.{All}
 use Rattle.std.proofs.lemmas.Int.{ints}
 use Rattle.std.proofs.lemmas.List.Elements.{All-cons, All-nil, All-get_or}
-use Rattle.station_reader.specs.Allowed.{numbers}
+use Rattle.station.specs.Allowed.{numbers}
 use Rattle.ratio.proofs.Ring.{add-mul_ℤ, mul_comm_ℤ}
 use Rattle.exact_lp.specs.declared.row.Row.{Row}
 use Rattle.exact_lp.specs.declared.point.ColumnWeight.{ColumnWeight}

@@ -1,7 +1,7 @@
 -- A loop that appends the cells of one more part.
 use Rattle.std.proofs.Common.{◌≡◌, ℕ, ◌+◌, List, [], ◌∷◌, ◌++◌, map, sym, ap, ◌∙◌, append_assoc}
 use Rattle.std.specs.List.{flat_map}
-use Rattle.station_reader.specs.Allowed.{numbers}
+use Rattle.station.specs.Allowed.{numbers}
 use Rattle.std.proofs.lemmas.List.{map-append}
 use Rattle.patterns.proofs.Steps.{flat_map_numbers_more, numbers_more}
 

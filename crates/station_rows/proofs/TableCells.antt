@@ -4,7 +4,7 @@ use Rattle.std.specs.Prelude.{unsigned_abs}
 use Rattle.std.specs.List.{All}
 use Rattle.std.proofs.lemmas.Int.{ints}
 use Rattle.std.proofs.lemmas.List.Elements.{All-head, All-tail}
-use Rattle.station_reader.specs.Allowed.{numbers}
+use Rattle.station.specs.Allowed.{numbers}
 use Rattle.ratio.proofs.Ring.{mul-add_ℤ}
 use Rattle.transport.specs.declared.TableCell.{TableCell}
 use Rattle.transport.specs.Coupling.{column_sum, cost_of, row_sum}

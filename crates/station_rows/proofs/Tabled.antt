@@ -4,7 +4,7 @@ use Rattle.std.specs.Prelude.{sum_by, unsigned_abs}
 use Rattle.std.specs.List.{All}
 use Rattle.std.proofs.lemmas.Int.{ints}
 use Rattle.std.proofs.lemmas.List.Elements.{All-get_or, All-weaker}
-use Rattle.station_reader.specs.Allowed.{numbers}
+use Rattle.station.specs.Allowed.{numbers}
 use Rattle.exact_lp.specs.declared.point.Point.{Point}
 use Rattle.exact_lp.specs.Programs.{IsWithin}
 use Rattle.transport.specs.declared.TableCell.{TableCell}

@@ -3,7 +3,7 @@ use Rattle.std.proofs.Common.{◌≡◌, ℕ, zero, suc, ◌+◌, ◌-◌, ◌<�
 use Rattle.std.specs.Prelude.{slice_get}
 use Rattle.std.proofs.lemmas.List.Elements.{All-get_or}
 use Rattle.std.proofs.lemmas.Option.{get_or_from_slice_get, slice_get_within}
-use Rattle.station_reader.specs.Allowed.{numbers}
+use Rattle.station.specs.Allowed.{numbers}
 use Rattle.pair_prices.specs.Trains.{TrainPair, train_pairs}
 use Rattle.pair_prices.proofs.Above.{IsTrainPair, all_pairs_there}
 use Rattle.pattern_pricing.specs.declared.column.Column.{Column}

@@ -6,7 +6,7 @@ use Rattle.std.proofs.lemmas.Int.{ints}
 use Rattle.std.proofs.lemmas.Bool.{eqb-true}
 use Rattle.std.proofs.lemmas.Bool.Decides.{nat_tests}
 use Rattle.std.proofs.lemmas.List.Elements.{All-head, All-tail}
-use Rattle.station_reader.specs.Allowed.{numbers}
+use Rattle.station.specs.Allowed.{numbers}
 use Rattle.exact_lp.specs.declared.point.ColumnWeight.{ColumnWeight}
 use Rattle.exact_lp.specs.Columns.{AreAscendingWeights, ArePositive, weighed_sum}
 use Rattle.exact_lp.specs.Programs.{IsWithin}

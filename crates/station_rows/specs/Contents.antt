@@ -1,7 +1,7 @@
 -- The cells of each kind of row. Where the value is 0 there is none.
 use Rattle.std.specs.Prelude.{ℕ, List, [], ◌∷◌, ◌++◌, flat_map, if◌then◌else◌, length, ℤ, pos, neg_ℤ}
 use Rattle.std.specs.Ordering.{int_eq}
-use Rattle.station_reader.specs.Allowed.{numbers}
+use Rattle.station.specs.Allowed.{numbers}
 use Rattle.exact_lp.specs.declared.row.RowCell.{RowCell}
 use Rattle.transport.specs.Coupling.{at}
 use Rattle.pair_prices.specs.Case.{CaseRecord}

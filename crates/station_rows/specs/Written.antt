@@ -1,7 +1,7 @@
 -- Weights of columns written side by side.
 use Rattle.std.specs.Prelude.{◌≡◌, ℕ, ◌+◌, ◌<◌, List, length, map, ℤ}
 use Rattle.std.specs.List.{between}
-use Rattle.station_reader.specs.Allowed.{numbers}
+use Rattle.station.specs.Allowed.{numbers}
 use Rattle.exact_lp.specs.declared.point.ColumnWeight.{ColumnWeight}
 use Rattle.transport.specs.Coupling.{at}
 use Rattle.pattern_pricing.specs.Layout.{LayoutRecord}

@@ -14,7 +14,7 @@ use exact_lp::RowCell;
 use pair_prices::{Case, held_platform};
 use path_conflicts::Held;
 use pattern_pricing::{Column, Layout, WeightAt};
-use station_reader::Pattern;
+use station::Pattern;
 use std::alloc::AllocError;
 
 /// The column's number.

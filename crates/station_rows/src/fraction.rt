@@ -1,5 +1,5 @@
 use patterns::Weights;
-use station_reader::Sequence;
+use sequence::Sequence;
 use transport::Cells;
 
 /// A table of two trains' weights, the first train's choices in rows and the second's in columns. A choice is a place in the train's list of

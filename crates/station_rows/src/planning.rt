@@ -14,7 +14,7 @@ use crate::fraction::{FractionPlan, PairTable};
 use pair_cuts::least_table;
 use pair_prices::Case;
 use patterns::{Allowed, Weights};
-use station_reader::Sequence;
+use sequence::Sequence;
 use std::alloc::{AllocError, Global};
 
 /// The fractional plan of these weights, with a least table for each two trains.

@@ -8,7 +8,7 @@ ghost use Rattle.std.specs.Prelude.{◌≡◌, ℕ, ◌+◌, ◌<◌, ◌≤◌,
 use exact_lp::{ColumnWeight, Point};
 use pattern_pricing::{Column, Layout, PairAt};
 use patterns::Weights;
-use station_reader::Sequence;
+use sequence::Sequence;
 use std::alloc::{AllocError, Global};
 
 /// The weights and uses that a point gives to the layout's columns, 0 where it lists none. It goes once over what the point lists.

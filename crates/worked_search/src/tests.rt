@@ -1,4 +1,5 @@
 mod ascent;
+mod judging;
 mod meetings;
 mod plans;
 mod search;

@@ -8,8 +8,8 @@ use leaf_bounds::{
 };
 use pair_prices::Case;
 use patterns::Allowed;
+use sequence::Sequence;
 use shared_trees::written_proof;
-use station_reader::Sequence;
 use std::alloc::{AllocError, Global};
 use std::test::Fail;
 use worked_stations::{R1, Train, s};

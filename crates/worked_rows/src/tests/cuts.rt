@@ -8,7 +8,7 @@ use clique_cuts::{CliqueCut, violated_clique};
 use pair_cuts::violated_pair;
 use pair_prices::Case;
 use patterns::{Allowed, Weights};
-use station_reader::Sequence;
+use sequence::Sequence;
 use std::alloc::{AllocError, Global};
 use std::test::Fail;
 use worked_stations::{F, K, plain_station};

@@ -1,6 +1,6 @@
 use Rattle.std.proofs.Common.{ℕ, ◌≡◌, ◌∙◌, ◌+◌, sym, ap, arith, length, cond}
 use Rattle.std.specs.Prelude.{sum_by}
-use Rattle.station_reader.specs.Allowed.{numbers}
+use Rattle.station.specs.Allowed.{numbers}
 use Rattle.patterns.specs.Allowed.{list_of}
 use Rattle.pair_prices.specs.Fraction.{holds_there, pattern_of}
 use Rattle.pair_prices.proofs.TopLemmas.{sum_numbers_more}

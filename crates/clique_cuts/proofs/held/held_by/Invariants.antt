@@ -1,6 +1,6 @@
 use Rattle.std.proofs.Common.{◌≡◌, ◌≤◌}
 use Rattle.std.specs.Prelude.{sum_by, if◌then◌else◌}
-use Rattle.station_reader.specs.Allowed.{numbers}
+use Rattle.station.specs.Allowed.{numbers}
 use Rattle.pair_prices.specs.Fraction.{holds_there, pattern_of}
 use Rattle.clique_cuts.specs.Over.{fraction_of}
 use Rattle.clique_cuts.proofs.held.held_by.Given as goal

@@ -1,6 +1,6 @@
 use Rattle.std.proofs.Common.{◌≡◌, ℕ, length, ap, ◌∙◌, arith}
 use Rattle.std.specs.Prelude.{flat_map}
-use Rattle.station_reader.specs.Allowed.{numbers}
+use Rattle.station.specs.Allowed.{numbers}
 use Rattle.pair_prices.specs.Trains.{pairs_with, train_pairs}
 use Rattle.leaf_bounds.specs.Fixed.{listed_pair, pair_list}
 use Rattle.leaf_bounds.proofs.PaidLemmas.{trains_added}

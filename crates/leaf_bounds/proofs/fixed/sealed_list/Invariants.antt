@@ -1,6 +1,6 @@
 use Rattle.std.proofs.Common.{◌≡◌}
 use Rattle.std.specs.Prelude.{flat_map}
-use Rattle.station_reader.specs.Allowed.{numbers}
+use Rattle.station.specs.Allowed.{numbers}
 use Rattle.pair_prices.specs.Trains.{pairs_with}
 use Rattle.leaf_bounds.specs.Fixed.{listed_pair}
 use Rattle.leaf_bounds.proofs.fixed.sealed_list.Given as goal

@@ -1,6 +1,6 @@
 use Rattle.std.proofs.Common.{◌≡◌, ◌++◌, map}
 use Rattle.std.specs.Prelude.{filter, flat_map}
-use Rattle.station_reader.specs.Allowed.{numbers}
+use Rattle.station.specs.Allowed.{numbers}
 use Rattle.pair_prices.specs.Trains.{pairs_with}
 use Rattle.leaf_bounds.specs.Group.{group_in}
 use Rattle.leaf_bounds.specs.Places.{key_at}

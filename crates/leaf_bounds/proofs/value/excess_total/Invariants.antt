@@ -1,6 +1,6 @@
 use Rattle.std.proofs.Common.{◌≡◌, ◌*◌, ◌≤◌}
 use Rattle.std.specs.Prelude.{◌^◌, unsigned_abs}
-use Rattle.station_reader.specs.Allowed.{numbers}
+use Rattle.station.specs.Allowed.{numbers}
 use Rattle.leaf_bounds.specs.Leaf.{excess}
 use Rattle.leaf_bounds.specs.Shown.{numbers_of}
 use Rattle.leaf_bounds.specs.Total.{total}

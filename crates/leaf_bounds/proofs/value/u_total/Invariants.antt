@@ -1,6 +1,6 @@
 use Rattle.std.proofs.Common.{◌≡◌, ◌*◌, ◌≤◌}
 use Rattle.std.specs.Prelude.{◌^◌, unsigned_abs}
-use Rattle.station_reader.specs.Allowed.{numbers}
+use Rattle.station.specs.Allowed.{numbers}
 use Rattle.leaf_bounds.specs.Listed.{u_listed}
 use Rattle.leaf_bounds.specs.Total.{total}
 use Rattle.leaf_bounds.proofs.value.u_total.Given as goal

@@ -1,5 +1,5 @@
 use Rattle.std.proofs.Common.{ap, ◌∙◌, subst, sym}
-use Rattle.station_reader.specs.Allowed.{StationRecord}
+use Rattle.station.specs.Allowed.{StationRecord}
 use Rattle.patterns.specs.Book.{Offers, pattern_at}
 use Rattle.patterns.specs.Sound.{IsSound}
 use Rattle.pair_prices.proofs.CaseLemmas.{sound_at}

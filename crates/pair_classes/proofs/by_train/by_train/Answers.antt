@@ -1,5 +1,5 @@
 use Rattle.std.proofs.Common.{ap, ◌∙◌, arith, length, []}
-use Rattle.station_reader.specs.Allowed.{numbers}
+use Rattle.station.specs.Allowed.{numbers}
 use Rattle.pair_classes.specs.Meetings.{places_with}
 use Rattle.pair_classes.proofs.PricedLemmas.{length_map, length_numbers, map_numbers_more, numbered_at}
 use Rattle.pair_classes.proofs.by_train.by_train.Goals as goal

@@ -1,6 +1,6 @@
 use Rattle.std.proofs.Common.{◌≡◌}
 use Rattle.std.specs.Prelude.{filter, slice_get}
-use Rattle.station_reader.specs.Allowed.{numbers}
+use Rattle.station.specs.Allowed.{numbers}
 use Rattle.pair_classes.specs.Meetings.{is_with}
 use Rattle.pair_classes.proofs.by_train.places_of.Given as goal
 

@@ -1,5 +1,5 @@
 use Rattle.std.proofs.Common.{◌≡◌, map, pos}
-use Rattle.station_reader.specs.Allowed.{numbers}
+use Rattle.station.specs.Allowed.{numbers}
 use Rattle.pair_classes.specs.Classes.{sealed_at}
 use Rattle.pair_classes.proofs.columns.column.Given as goal
 

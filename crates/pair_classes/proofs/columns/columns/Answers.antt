@@ -1,5 +1,5 @@
 use Rattle.std.proofs.Common.{ap, length, arith, ◌∙◌}
-use Rattle.station_reader.specs.Allowed.{numbers}
+use Rattle.station.specs.Allowed.{numbers}
 use Rattle.pair_classes.specs.Classes.{column}
 use Rattle.pair_classes.proofs.PricedLemmas.{length_map, length_numbers, map_numbers_more}
 use Rattle.pair_classes.proofs.columns.columns.Goals as goal

@@ -1,5 +1,5 @@
 use Rattle.std.proofs.Common.{◌≡◌, map}
-use Rattle.station_reader.specs.Allowed.{numbers}
+use Rattle.station.specs.Allowed.{numbers}
 use Rattle.pair_classes.specs.Classes.{column}
 use Rattle.pair_classes.proofs.columns.columns.Given as goal
 

@@ -1,6 +1,6 @@
 use Rattle.std.proofs.Common.{sym, subst, ap, ◌∙◌}
-use Rattle.station_reader.specs.Allowed.{StationRecord}
-use Rattle.station_reader.specs.declared.part.Pattern.{Pattern}
+use Rattle.station.specs.Allowed.{StationRecord}
+use Rattle.station.specs.declared.part.Pattern.{Pattern}
 use Rattle.patterns.specs.Sound.{IsSound}
 use Rattle.patterns.specs.Book.{pattern_at}
 use Rattle.pair_prices.proofs.CaseLemmas.{sound_at}

@@ -1,6 +1,6 @@
 use Rattle.std.proofs.Common.{ℕ, ◌≡◌, ◌+◌, ◌-◌, sym, ap, ◌∙◌, arith}
 use Rattle.std.specs.Prelude.{sum_by}
-use Rattle.station_reader.specs.Allowed.{numbers}
+use Rattle.station.specs.Allowed.{numbers}
 use Rattle.pair_prices.proofs.TopLemmas.{sum_numbers_more}
 use Rattle.pattern_pricing.proofs.Sums.{next_start}
 use Rattle.pattern_pricing.proofs.starts.pair_starts_of.Goals as goal

@@ -1,6 +1,6 @@
 use Rattle.std.proofs.Common.{◌≡◌, ◌≤◌, ◌*◌, ◌+◌, ◌-◌}
 use Rattle.std.specs.Prelude.{sum_by}
-use Rattle.station_reader.specs.Allowed.{numbers}
+use Rattle.station.specs.Allowed.{numbers}
 use Rattle.pattern_pricing.specs.Kept.{AreStarts}
 use Rattle.pattern_pricing.proofs.starts.pair_starts_of.Given as goal
 

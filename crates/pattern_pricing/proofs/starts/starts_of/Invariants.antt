@@ -1,6 +1,6 @@
 use Rattle.std.proofs.Common.{◌≡◌, ◌≤◌, ◌*◌, length}
 use Rattle.std.specs.Prelude.{sum_by}
-use Rattle.station_reader.specs.Allowed.{numbers}
+use Rattle.station.specs.Allowed.{numbers}
 use Rattle.patterns.specs.Allowed.{list_of}
 use Rattle.pattern_pricing.specs.Kept.{AreStarts}
 use Rattle.pattern_pricing.proofs.starts.starts_of.Given as goal

@@ -1,6 +1,6 @@
 use Rattle.std.proofs.Common.{◌≡◌, ◌++◌, length}
 use Rattle.std.specs.Prelude.{flat_map, slice_index}
-use Rattle.station_reader.specs.Allowed.{numbers}
+use Rattle.station.specs.Allowed.{numbers}
 use Rattle.plan_cost.specs.declared.record.PlanRecord.TheVariants.{Header}
 use Rattle.plan_cost.specs.PlanText.{record_line}
 use Rattle.plan_cost.proofs.PlanTexts.{choice_line}

@@ -1,4 +1,4 @@
-use Rattle.station_reader.specs.Shown.{record_of}
+use Rattle.station.specs.Shown.{record_of}
 use Rattle.pair_prices.specs.Case.{rule_case}
 use Rattle.platform_cli.specs.View.{outcome_of}
 use Rattle.platform_cli.proofs.SolveSteps.{bounded_found}

@@ -1,6 +1,6 @@
 use Rattle.std.proofs.Common.{Some, refl, ap, arith}
 use Rattle.command_words.specs.Command.{check}
-use Rattle.station_reader.specs.Shown.{record_of}
+use Rattle.station.specs.Shown.{record_of}
 use Rattle.platform_cli.specs.View.{check_view, outcome_of, reading_of}
 use Rattle.platform_cli.proofs.Answering.{unread_answer}
 use Rattle.platform_cli.proofs.CheckSteps.{checked_result, reads_behind}

@@ -1,5 +1,5 @@
 use Rattle.std.proofs.Common.{ap}
-use Rattle.station_reader.specs.Shown.{record_of}
+use Rattle.station.specs.Shown.{record_of}
 use Rattle.pair_prices.specs.Case.{rule_case}
 use Rattle.platform_cli.specs.Report.{report_text}
 use Rattle.platform_cli.specs.View.{outcome_of, plan_reading_of}

@@ -1,5 +1,5 @@
 use Rattle.std.proofs.Common.{◌≡◌, rules, None, sym, ◌∙◌, ap, arith}
-use Rattle.station_reader.specs.Shown.{record_of}
+use Rattle.station.specs.Shown.{record_of}
 use Rattle.platform_cli.specs.Asked.{bad_window}
 use Rattle.platform_cli.specs.Given.{text_outcome}
 use Rattle.platform_cli.specs.View.{asked_view, outcome_of, reading_of}

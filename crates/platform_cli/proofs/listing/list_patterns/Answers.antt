@@ -1,6 +1,6 @@
 use Rattle.std.proofs.Common.{Some, refl, ap}
 use Rattle.command_words.specs.Command.{patterns}
-use Rattle.station_reader.specs.Shown.{record_of}
+use Rattle.station.specs.Shown.{record_of}
 use Rattle.platform_cli.specs.View.{outcome_of, reading_of}
 use Rattle.platform_cli.proofs.Answering.{listed_answer, unread_answer}
 use Rattle.platform_cli.proofs.listing.list_patterns.Goals as goal

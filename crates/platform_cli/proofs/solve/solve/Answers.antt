@@ -1,6 +1,6 @@
 use Rattle.std.proofs.Common.{Some, refl, ap}
 use Rattle.command_words.specs.Command.{solve}
-use Rattle.station_reader.specs.Shown.{record_of}
+use Rattle.station.specs.Shown.{record_of}
 use Rattle.platform_cli.specs.View.{outcome_of, reading_of, solve_view}
 use Rattle.platform_cli.proofs.Answering.{solved_answer, unread_answer}
 use Rattle.platform_cli.proofs.solve.solve.Goals as goal

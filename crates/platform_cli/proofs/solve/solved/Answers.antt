@@ -1,4 +1,4 @@
-use Rattle.station_reader.specs.Shown.{record_of}
+use Rattle.station.specs.Shown.{record_of}
 use Rattle.pair_prices.specs.Case.{rule_case}
 use Rattle.platform_cli.specs.View.{solve_view}
 use Rattle.platform_cli.proofs.SolveSteps.{none_root, none_unreached, open_root, open_undecided, optimal_below, optimal_root, solved_none, solved_open, solved_optimal}

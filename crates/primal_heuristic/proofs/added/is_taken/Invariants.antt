@@ -1,6 +1,6 @@
 use Rattle.std.proofs.Common.{◌≡◌, ◌==◌, false}
 use Rattle.std.specs.List.{list_any}
-use Rattle.station_reader.specs.Allowed.{numbers}
+use Rattle.station.specs.Allowed.{numbers}
 use Rattle.pair_prices.specs.Plan.{chosen}
 use Rattle.primal_heuristic.proofs.added.is_taken.Given as goal
 

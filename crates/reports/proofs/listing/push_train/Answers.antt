@@ -1,6 +1,6 @@
 use Rattle.std.proofs.Common.{◌≡◌, ◌∙◌, ◌+◌, ◌++◌, ap, length, arith}
 use Rattle.std.specs.Prelude.{flat_map}
-use Rattle.station_reader.specs.Allowed.{numbers}
+use Rattle.station.specs.Allowed.{numbers}
 use Rattle.patterns.specs.Book.{offers_of}
 use Rattle.patterns.proofs.Steps.{appended_more, flat_map_numbers_more}
 use Rattle.reports.specs.Text.{pattern_line}

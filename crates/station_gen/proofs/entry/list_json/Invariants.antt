@@ -1,6 +1,6 @@
 use Rattle.std.proofs.Common.{◌≡◌, map, take}
 use Rattle.serde_json.specs.View.{view}
-use Rattle.station_reader.specs.Shown.{record_of}
+use Rattle.station.specs.Shown.{record_of}
 use Rattle.station_gen.proofs.entry.list_json.Given as goal
 
 abbrev pub invariant-loop-entry : goal.invariant-loop-entry

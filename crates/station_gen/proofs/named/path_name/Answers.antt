@@ -1,4 +1,4 @@
-use Rattle.station_reader.specs.declared.part.Path.{Path}
+use Rattle.station.specs.declared.part.Path.{Path}
 use Rattle.station_gen.proofs.NameText.{nothing_named}
 use Rattle.station_gen.proofs.named.path_name.Goals as goal
 

@@ -1,4 +1,4 @@
-use Rattle.station_reader.specs.declared.part.Platform.{Platform}
+use Rattle.station.specs.declared.part.Platform.{Platform}
 use Rattle.station_gen.proofs.NameText.{nothing_named}
 use Rattle.station_gen.proofs.named.platform_name.Goals as goal
 

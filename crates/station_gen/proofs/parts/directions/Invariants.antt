@@ -1,5 +1,5 @@
 use Rattle.std.proofs.Common.{◌≡◌, [], map, slice_index_or}
-use Rattle.station_reader.specs.Allowed.{numbers}
+use Rattle.station.specs.Allowed.{numbers}
 use Rattle.station_gen.specs.Made.{made_directions}
 use Rattle.station_gen.proofs.parts.directions.Given as goal
 

@@ -1,5 +1,5 @@
 use Rattle.std.proofs.Common.{◌≡◌, map}
-use Rattle.station_reader.specs.Allowed.{numbers}
+use Rattle.station.specs.Allowed.{numbers}
 use Rattle.station_gen.specs.Made.{regular}
 use Rattle.station_gen.proofs.parts.platforms.Given as goal
 

@@ -1,5 +1,5 @@
 use Rattle.std.proofs.Common.{◌≡◌, ◌++◌, flat_map}
-use Rattle.station_reader.specs.Allowed.{numbers}
+use Rattle.station.specs.Allowed.{numbers}
 use Rattle.station_gen.specs.Made.{paths_between}
 use Rattle.station_gen.proofs.parts.push_paths_of.Given as goal
 

@@ -2,11 +2,11 @@ use Rattle.std.proofs.Common.{ℕ, List, map, refl, ap, ◌∙◌}
 use Rattle.std.specs.Prelude.{codes}
 use Rattle.serde_json.specs.Data.{string}
 use Rattle.serde_json.specs.View.{members_view}
-use Rattle.station_reader.specs.Shown.{record_of}
-use Rattle.station_reader.specs.declared.part.Platform.{Platform}
-use Rattle.station_reader.specs.declared.part.Path.{Path}
-use Rattle.station_reader.specs.declared.part.PathPair.{PathPair}
-use Rattle.station_reader.specs.declared.part.Train.{Train}
+use Rattle.station.specs.Shown.{record_of}
+use Rattle.station.specs.declared.part.Platform.{Platform}
+use Rattle.station.specs.declared.part.Path.{Path}
+use Rattle.station.specs.declared.part.PathPair.{PathPair}
+use Rattle.station.specs.declared.part.Train.{Train}
 use Rattle.station_gen.specs.Json.{list_json, pair_json, path_json, platform_json, train_json}
 use Rattle.station_gen.proofs.Puts.{put_step}
 use Rattle.station_gen.proofs.text.put_lists.Goals as goal

@@ -3,8 +3,8 @@ use Rattle.serde_json.specs.Data.{Data, depth}
 use Rattle.serde_json.specs.Read.{read, max_depth}
 use Rattle.serde_json.specs.View.{view}
 use Rattle.serde_json.specs.Written.{has_float, compact_text}
-use Rattle.station_reader.specs.Allowed.{StationRecord}
-use Rattle.station_reader.specs.Shown.{record_of}
+use Rattle.station.specs.Allowed.{StationRecord}
+use Rattle.station.specs.Shown.{record_of}
 use Rattle.station_gen.specs.Json.{station_json, json_of}
 use Rattle.station_gen.proofs.ReadBack.{no-float, shallow, read-back}
 use Rattle.station_gen.proofs.text.to_json.Goals as goal

@@ -1,5 +1,5 @@
 use Rattle.std.proofs.Common.{◌≡◌, ◌*◌, map}
-use Rattle.station_reader.specs.Allowed.{numbers}
+use Rattle.station.specs.Allowed.{numbers}
 use Rattle.station_gen.specs.Made.{state_after, made_train}
 use Rattle.station_gen.proofs.trains.drawn_trains.Given as goal
 

@@ -1,5 +1,5 @@
 use Rattle.std.specs.Prelude.{IsTrue}
-use Rattle.station_reader.specs.Named.{is_name}
+use Rattle.station.specs.Named.{is_name}
 use Rattle.station_reader.specs.Tree.{text}
 use Rattle.station_reader.proofs.Made.{Each-at}
 use Rattle.station_reader.proofs.convert.directions.Goals as goal

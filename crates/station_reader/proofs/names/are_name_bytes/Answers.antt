@@ -2,7 +2,7 @@ use Rattle.std.proofs.Common.{rules}
 use Rattle.std.proofs.lemmas.Iterator.{YieldsList-from_slice}
 use Rattle.std.proofs.lemmas.Iterator.Search.{all_from_yields_List}
 use borrow.Author.Tests.{tests}
-use Rattle.station_reader.specs.Named.{is_name_byte}
+use Rattle.station.specs.Named.{is_name_byte}
 use Rattle.station_reader.proofs.names.are_name_bytes.Goals as goal
 
 pub returns : goal.returns

@@ -1,7 +1,7 @@
 use Rattle.std.proofs.Common.{◌≡◌, ◌||◌, map, drop}
 use Rattle.std.specs.List.{list_any}
 use Rattle.serde_json.specs.View.{view}
-use Rattle.station_reader.specs.declared.part.PathPair.{PathPair}
+use Rattle.station.specs.declared.part.PathPair.{PathPair}
 use Rattle.station_reader.specs.Reading.{same_pair, listed_pair}
 use Rattle.station_reader.specs.Marked.{is_marked, IsNumbered}
 use Rattle.station_reader.proofs.pairs.marked_pairs.Given as goal

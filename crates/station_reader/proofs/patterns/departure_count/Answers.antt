@@ -1,5 +1,5 @@
 use Rattle.std.proofs.Common.{◌∙◌, ap, arith, zero-add, cond, int_le, pos, ◌+ℤ◌, ℤ}
-use Rattle.station_reader.specs.Counted.{total, departures, arrive_minute}
+use Rattle.station.specs.Counted.{total, departures, arrive_minute}
 use Rattle.station_reader.proofs.Windows.{rest-start, rest-step, one_more, at_most_one}
 use Rattle.station_reader.proofs.patterns.departure_count.Goals as goal
 

@@ -1,6 +1,6 @@
 use Rattle.std.proofs.Common.{arith, pos, ◌+ℤ◌, ◌≤ℤ◌, ◌<ℤ◌}
 use Rattle.std.proofs.lemmas.Int.{ints}
-use Rattle.station_reader.specs.Counted.{arrive_minute, depart_minute}
+use Rattle.station.specs.Counted.{arrive_minute, depart_minute}
 use Rattle.station_reader.proofs.Windows.{kept_dwell, broken_dwell}
 use Rattle.station_reader.proofs.patterns.dwell_count.Goals as goal
 

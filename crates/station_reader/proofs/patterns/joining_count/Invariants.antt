@@ -1,6 +1,6 @@
 use Rattle.std.proofs.Common.{◌≡◌, ◌+◌, ◌≤◌, drop, cond}
-use Rattle.station_reader.specs.Counted.{total}
-use Rattle.station_reader.specs.Allowed.{joins}
+use Rattle.station.specs.Counted.{total}
+use Rattle.station.specs.Allowed.{joins}
 use Rattle.station_reader.proofs.patterns.joining_count.Given as goal
 
 abbrev pub invariant-loop-path : goal.invariant-loop-path

@@ -1,5 +1,5 @@
 use Rattle.std.proofs.Common.{◌∙◌, ap, arith, zero-add}
-use Rattle.station_reader.specs.Counted.{total, departures, times}
+use Rattle.station.specs.Counted.{total, departures, times}
 use Rattle.station_reader.proofs.Windows.{rest-start, rest-step, one_more}
 use Rattle.station_reader.proofs.patterns.time_count.Goals as goal
 

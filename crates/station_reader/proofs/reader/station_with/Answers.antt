@@ -1,9 +1,9 @@
 use Rattle.std.proofs.Common.{◌≤◌, length, ap, sym, subst, ◌∙◌}
 use Rattle.serde_json.specs.View.{view}
-use Rattle.station_reader.specs.Allowed.{StationRecord}
-use Rattle.station_reader.specs.Counted.{IsTimed}
+use Rattle.station.specs.Allowed.{StationRecord}
+use Rattle.station.specs.Counted.{IsTimed}
 use Rattle.station_reader.specs.Passes.{Each}
-use Rattle.station_reader.specs.Station.{IsStation}
+use Rattle.station.specs.Station.{IsStation}
 use Rattle.station_reader.specs.Reading.{patterns}
 use Rattle.station_reader.proofs.Clear.{passes}
 use Rattle.station_reader.proofs.Kept.{kept, timed, few_platforms, few_paths}

@@ -4,7 +4,7 @@ use Rattle.std.proofs.lemmas.Iterator.Search.{any_from_yields_List}
 use borrow.Author.Tests.{tests}
 use Rattle.serde_json.specs.View.{view}
 use Rattle.station_reader.specs.Classes.{is_regular_named}
-use Rattle.station_reader.proofs.Lists.{any-made}
+use Rattle.station.proofs.Lists.{any-made}
 use Rattle.station_reader.proofs.unknown.is_regular_platform.Goals as goal
 
 pub returns : goal.returns

@@ -1,7 +1,7 @@
 use Rattle.std.proofs.Common.{ℕ, List, ◌∙◌, bytes_eq}
 use Rattle.std.specs.Borrow.{Bor}
 use Rattle.station_reader.specs.First.{occurs}
-use Rattle.station_reader.proofs.Lists.{any-made}
+use Rattle.station.proofs.Lists.{any-made}
 use Rattle.station_reader.proofs.name_table.NameTable.has.Goals as goal
 
 pub returns : goal.returns

@@ -1,7 +1,7 @@
 use Rattle.std.proofs.Common.{◌≡◌, ℕ, List, ◌∙◌, bytes_eq}
 use Rattle.std.specs.Prelude.{position}
 use Rattle.std.specs.Borrow.{Bor}
-use Rattle.station_reader.proofs.Lists.{position-made}
+use Rattle.station.proofs.Lists.{position-made}
 use Rattle.station_reader.proofs.name_table.NameTable.number.Goals as goal
 
 pub returns : goal.returns

@@ -3,7 +3,7 @@ use Rattle.std.specs.Prelude.{All, slice_index_or, sum_by, unsigned_abs}
 use Rattle.std.proofs.lemmas.Int.{ints}
 use Rattle.std.proofs.lemmas.List.{get_or-replicate, length-replicate}
 use Rattle.std.proofs.lemmas.List.Elements.{All-nil, All-cons, All-replicate}
-use Rattle.station_reader.specs.Allowed.{StationRecord}
+use Rattle.station.specs.Allowed.{StationRecord}
 use Rattle.patterns.specs.declared.weights.Weights.{Weights}
 use Rattle.patterns.specs.Allowed.{Lists, list_of}
 use Rattle.patterns.specs.Weights.{FitsLists, choice_weights, weights_of, left_of}

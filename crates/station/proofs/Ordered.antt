@@ -3,13 +3,13 @@ use Rattle.std.proofs.Common.{◌≡◌, ℕ, zero, suc, ◌+◌, ◌<◌, List,
 use Rattle.std.specs.Prelude.{flat_map}
 use Rattle.std.specs.List.{range_with_len}
 use Rattle.std.proofs.lemmas.Int.{ints}
-use Rattle.station_reader.specs.declared.part.Train.{Train}
-use Rattle.station_reader.specs.declared.part.Pattern.{Pattern}
-use Rattle.station_reader.specs.Allowed.{StationRecord, numbers, path_choices, window, tuples, is_allowed, allowed_list}
-use Rattle.station_reader.specs.Rules.{PathBefore, ComesBefore, ListsAscend}
-use Rattle.station_reader.proofs.Counts.{departs, arrives, choices, at_minutes, at_arrival, at_paths, at_path_in, at_platform}
-use Rattle.station_reader.proofs.Lists.{Every, Rising, rising-at, rising-filter, rising-append}
-use Rattle.station_reader.proofs.Among.{Among, from-flat_map, from-map, from-range}
+use Rattle.station.specs.declared.part.Train.{Train}
+use Rattle.station.specs.declared.part.Pattern.{Pattern}
+use Rattle.station.specs.Allowed.{StationRecord, numbers, path_choices, window, tuples, is_allowed, allowed_list}
+use Rattle.station.specs.Rules.{PathBefore, ComesBefore, ListsAscend}
+use Rattle.station.proofs.Counts.{departs, arrives, choices, at_minutes, at_arrival, at_paths, at_path_in, at_platform}
+use Rattle.station.proofs.Lists.{Every, Rising, rising-at, rising-filter, rising-append}
+use Rattle.station.proofs.Among.{Among, from-flat_map, from-map, from-range}
 
 every-all : {X : Type 0} (P : X → Type 0) (xs : List X) → ((x : X) → Among xs x → P x) → Every P xs
 every-all P [] all = tt

@@ -1,13 +1,13 @@
 -- A station as a record, and the patterns that its rules allow a train.
 use Rattle.std.specs.Prelude.{ℕ, ◌+◌, List, ◌∷◌, map, filter, flat_map, length, Bool, false, true, ◌&&◌, ◌==◌, if◌then◌else◌, is_none, Option, Some, None, slice_get, ℤ, pos, ◌+ℤ◌, ◌-ℤ◌, int_le}
 use Rattle.std.specs.List.{list_any, range_with_len}
-use Rattle.station_reader.specs.declared.part.Platform.{Platform}
-use Rattle.station_reader.specs.declared.part.Path.{Path}
-use Rattle.station_reader.specs.declared.part.PathWay.{PathWay}
-use Rattle.station_reader.specs.declared.part.PathWay.TheVariants.{In, Out}
-use Rattle.station_reader.specs.declared.part.PathPair.{PathPair}
-use Rattle.station_reader.specs.declared.part.Train.{Train}
-use Rattle.station_reader.specs.declared.part.Pattern.{Pattern}
+use Rattle.station.specs.declared.part.Platform.{Platform}
+use Rattle.station.specs.declared.part.Path.{Path}
+use Rattle.station.specs.declared.part.PathWay.{PathWay}
+use Rattle.station.specs.declared.part.PathWay.TheVariants.{In, Out}
+use Rattle.station.specs.declared.part.PathPair.{PathPair}
+use Rattle.station.specs.declared.part.Train.{Train}
+use Rattle.station.specs.declared.part.Pattern.{Pattern}
 
 pub record StationRecord : Type 0 where
   pub threshold : ℕ

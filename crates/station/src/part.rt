@@ -1,6 +1,6 @@
 // The parts of a station. docs/FORMATS.md has the limits of their numbers, docs/RULES.md what they mean.
 use crate::name::Name;
-use crate::sequence::Sequence;
+use sequence::Sequence;
 
 /// A platform, a regular one or a dummy.
 #[derive(Drop)]

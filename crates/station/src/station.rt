@@ -1,9 +1,9 @@
-ghost use Rattle.station_reader.specs.Station.{IsStation};
+ghost use Rattle.station.specs.Station.{IsStation};
 
 use crate::copy::{copy_all, copy_plain};
 use crate::name::Name;
 use crate::part::{Path, PathPair, Platform, Train};
-use crate::sequence::Sequence;
+use sequence::Sequence;
 use std::alloc::{AllocError, Global};
 
 /// A station and its timetable. Numbers of directions, platforms, paths and trains are their places
@@ -31,7 +31,7 @@ pub struct Station {
 
 impl Station {
     ghost use Rattle.std.specs.Prelude.{◌≡◌, IfOk};
-    ghost use Rattle.station_reader.specs.Shown.{record_of};
+    ghost use Rattle.station.specs.Shown.{record_of};
 
     /// An equal station. The error is want of memory.
     pub fn copy(&self, alloc: Global) -> Result<Station, AllocError>

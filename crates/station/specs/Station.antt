@@ -1,12 +1,12 @@
 -- What is true of every station: its limits, distinct names, and numbers that are there.
 use Rattle.std.specs.Prelude.{◌≡◌, ℕ, ◌+◌, ◌*◌, ◌<◌, ◌≤◌, List, length, false, Some, slice_get, pos, ◌≤ℤ◌, IsTrue, map}
-use Rattle.station_reader.specs.declared.part.Platform.{Platform}
-use Rattle.station_reader.specs.declared.part.Path.{Path}
-use Rattle.station_reader.specs.declared.part.PathPair.{PathPair}
-use Rattle.station_reader.specs.declared.part.Train.{Train}
-use Rattle.station_reader.specs.declared.part.Surcharge.{Surcharge}
-use Rattle.station_reader.specs.Named.{is_name}
-use Rattle.station_reader.specs.Allowed.{StationRecord, allowed_list}
+use Rattle.station.specs.declared.part.Platform.{Platform}
+use Rattle.station.specs.declared.part.Path.{Path}
+use Rattle.station.specs.declared.part.PathPair.{PathPair}
+use Rattle.station.specs.declared.part.Train.{Train}
+use Rattle.station.specs.declared.part.Surcharge.{Surcharge}
+use Rattle.station.specs.Named.{is_name}
+use Rattle.station.specs.Allowed.{StationRecord, allowed_list}
 
 -- no name stands at two places
 abbrev pub AllDiffer : List (List ℕ) → Type 0

@@ -1,6 +1,9 @@
-use super::*;
-use pair_prices::{Case, Why};
-use station_reader::{Sequence, read_station};
+use super::case_of;
+use pair_prices::Case;
+use plan_cost::{
+    Costs, Plan, PlanFault, PlanKind, PlanRefused, Verdict, judge, read_plan, write_plan,
+};
+use sequence::Sequence;
 use std::alloc::{AllocError, Global};
 use std::test::Fail;
 
@@ -15,13 +18,6 @@ const STATION: &str = r#"{"format":"tpp-station","version":1,"threshold":2,"conf
 "trains":[{"name":"R1","from":"W","to":"E","arrive":10,"depart":15,"dwell":1,
 "arrive_early":0,"arrive_late":0,"depart_early":0,"depart_late":0,
 "platforms":["1","D"],"prefer":["1"],"off_price":100,"shift_price":10,"surcharges":[]}]}"#;
-
-fn case_of(alloc: Global, text: &str) -> Result<Case, Fail> {
-    match read_station(alloc, text.as_bytes()) {
-        Ok(station) => Ok(Case::new(alloc, station)?),
-        Err(_) => Err("no station")?,
-    }
-}
 
 fn plan_of(alloc: Global, choice: &[u16]) -> Result<Plan, AllocError> {
     Ok(Plan {

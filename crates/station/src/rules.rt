@@ -1,6 +1,6 @@
 // That the list of a train's patterns is what the rules allow.
-ghost use Rattle.station_reader.specs.Shown.{record_of};
-ghost use Rattle.station_reader.specs.Rules.{ListsAllowed, ListsAscend};
+ghost use Rattle.station.specs.Shown.{record_of};
+ghost use Rattle.station.specs.Rules.{ListsAllowed, ListsAscend};
 
 use crate::station::Station;
 

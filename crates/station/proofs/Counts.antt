@@ -3,13 +3,13 @@ use Rattle.std.proofs.Common.{◌≡◌, ℕ, zero, suc, ◌+◌, ◌*◌, List,
 use Rattle.std.specs.Prelude.{filter, flat_map}
 use Rattle.std.specs.List.{list_any, range_with_len}
 use Rattle.std.proofs.lemmas.List.Elements.{filter-append}
-use Rattle.station_reader.specs.declared.part.Platform.{Platform}
-use Rattle.station_reader.specs.declared.part.PathWay.{PathWay}
-use Rattle.station_reader.specs.declared.part.PathWay.TheVariants.{In, Out}
-use Rattle.station_reader.specs.declared.part.Train.{Train}
-use Rattle.station_reader.specs.declared.part.Pattern.{Pattern}
-use Rattle.station_reader.specs.Allowed.{StationRecord, numbers, path_choices, window, is_path_of, is_way_served, is_dummy, are_paths_allowed, is_allowed, allowed_list}
-use Rattle.station_reader.specs.Counted.{total, ways, departures, times, on_platform, counted}
+use Rattle.station.specs.declared.part.Platform.{Platform}
+use Rattle.station.specs.declared.part.PathWay.{PathWay}
+use Rattle.station.specs.declared.part.PathWay.TheVariants.{In, Out}
+use Rattle.station.specs.declared.part.Train.{Train}
+use Rattle.station.specs.declared.part.Pattern.{Pattern}
+use Rattle.station.specs.Allowed.{StationRecord, numbers, path_choices, window, is_path_of, is_way_served, is_dummy, are_paths_allowed, is_allowed, allowed_list}
+use Rattle.station.specs.Counted.{total, ways, departures, times, on_platform, counted}
 
 pub total-same : {X : Type 0} (f g : X → ℕ) → ((x : X) → f x ≡ g x) → (xs : List X) → total f xs ≡ total g xs
 total-same f g same [] = refl

@@ -1,13 +1,13 @@
 -- What the rules allow a train, in the words of the rules, and the law that the list of its patterns is what they allow, in order.
 use Rattle.std.specs.Prelude.{◌≡◌, ℕ, ◌<◌, ◌⊎◌, ◌↔◌, Bool, true, false, Option, Some, None, slice_get, pos, ◌+ℤ◌, ◌-ℤ◌, ◌≤ℤ◌, ◌<ℤ◌, ⊤}
 use Rattle.std.specs.List.{Contains}
-use Rattle.station_reader.specs.declared.part.Platform.{Platform}
-use Rattle.station_reader.specs.declared.part.Path.{Path}
-use Rattle.station_reader.specs.declared.part.PathWay.{PathWay}
-use Rattle.station_reader.specs.declared.part.PathWay.TheVariants.{In, Out}
-use Rattle.station_reader.specs.declared.part.Train.{Train}
-use Rattle.station_reader.specs.declared.part.Pattern.{Pattern}
-use Rattle.station_reader.specs.Allowed.{StationRecord, allowed_list}
+use Rattle.station.specs.declared.part.Platform.{Platform}
+use Rattle.station.specs.declared.part.Path.{Path}
+use Rattle.station.specs.declared.part.PathWay.{PathWay}
+use Rattle.station.specs.declared.part.PathWay.TheVariants.{In, Out}
+use Rattle.station.specs.declared.part.Train.{Train}
+use Rattle.station.specs.declared.part.Pattern.{Pattern}
+use Rattle.station.specs.Allowed.{StationRecord, allowed_list}
 
 -- Path i is of this way, between the direction and the platform.
 pub record IsPathBetween (r : StationRecord) (way : PathWay) (direction platform i : ℕ) : Type 0 where

@@ -1,5 +1,5 @@
 ghost use Rattle.std.specs.Prelude.{◌≡◌, IfOk, IsTrue};
-ghost use Rattle.station_reader.specs.Named.{is_name};
+ghost use Rattle.station.specs.Named.{is_name};
 
 use std::alloc::{AllocError, Global};
 use std::marker::Model;
@@ -12,7 +12,7 @@ pub struct Name {
 
 impl Model for Name {
     ghost use Rattle.std.specs.Prelude.{List, ℕ, IsTrue};
-    ghost use Rattle.station_reader.specs.Named.{is_name};
+    ghost use Rattle.station.specs.Named.{is_name};
 
     ghost Value = { List ℕ };
 

@@ -3,19 +3,19 @@ use Rattle.std.proofs.Common.{◌≡◌, ℕ, zero, suc, ◌+◌, ◌<◌, List,
 use Rattle.std.specs.List.{Contains, list_any}
 use Rattle.std.proofs.lemmas.Int.{ints}
 use Rattle.std.proofs.lemmas.Bool.Decides.{nat_tests}
-use Rattle.station_reader.specs.declared.part.Path.{Path}
-use Rattle.station_reader.specs.declared.part.PathWay.{PathWay}
-use Rattle.station_reader.specs.declared.part.PathWay.TheVariants.{In, Out}
-use Rattle.station_reader.specs.declared.part.Train.{Train}
-use Rattle.station_reader.specs.declared.part.Pattern.{Pattern}
-use Rattle.station_reader.specs.Allowed.{StationRecord, numbers, path_choices, window, tuples, same_way, is_path_of, leads, is_way_served, are_paths_allowed, is_allowed, allowed_list}
-use Rattle.station_reader.specs.Station.{IsStation, IsTrain}
-use Rattle.station_reader.specs.Rules.{IsPathBetween, TakesPath, HasPathsOf, IsAllowed, ListsAllowed}
-use Rattle.station_reader.proofs.Counts.{departs, arrives, choices, at_minutes, at_arrival, at_paths, at_path_in, at_platform}
-use Rattle.station_reader.proofs.Differ.{or_right}
-use Rattle.station_reader.proofs.Limits.{left, right}
-use Rattle.station_reader.proofs.Lists.{any-found}
-use Rattle.station_reader.proofs.Among.{Among, contains, among, among-at, place-of, into-flat_map, from-flat_map, into-map, from-map, into-filter, from-filter, into-range, from-range}
+use Rattle.station.specs.declared.part.Path.{Path}
+use Rattle.station.specs.declared.part.PathWay.{PathWay}
+use Rattle.station.specs.declared.part.PathWay.TheVariants.{In, Out}
+use Rattle.station.specs.declared.part.Train.{Train}
+use Rattle.station.specs.declared.part.Pattern.{Pattern}
+use Rattle.station.specs.Allowed.{StationRecord, numbers, path_choices, window, tuples, same_way, is_path_of, leads, is_way_served, are_paths_allowed, is_allowed, allowed_list}
+use Rattle.station.specs.Station.{IsStation, IsTrain}
+use Rattle.station.specs.Rules.{IsPathBetween, TakesPath, HasPathsOf, IsAllowed, ListsAllowed}
+use Rattle.station.proofs.Counts.{departs, arrives, choices, at_minutes, at_arrival, at_paths, at_path_in, at_platform}
+use Rattle.station.proofs.Tests.{or_right}
+use Rattle.station.proofs.Tests.{left, right}
+use Rattle.station.proofs.Lists.{any-found}
+use Rattle.station.proofs.Among.{Among, contains, among, among-at, place-of, into-flat_map, from-flat_map, into-map, from-map, into-filter, from-filter, into-range, from-range}
 
 -- ---- the minutes of a window
 

@@ -1,0 +1,6 @@
+//! A list that contracts see as the list of its elements.
+#![tactic(auto)]
+
+mod sequence;
+
+pub use sequence::Sequence;
