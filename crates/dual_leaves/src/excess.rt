@@ -1,19 +1,19 @@
 ghost use Rattle.dual_leaves.specs.Account.{of_number, on_platform, NoneBelow};
 ghost use Rattle.dual_leaves.specs.Priced.{use_price, AreFirstPaid, AreUsesPaid};
 ghost use Rattle.dual_leaves.specs.Sums.{summed};
-ghost use Rattle.exact_lp.specs.Ledger.{Raised};
+ghost use Rattle.ratio.specs.Ledger.{Raised};
 ghost use Rattle.leaf_bounds.specs.Total.{only_if};
 ghost use Rattle.pair_prices.specs.Plan.{platform_price};
 ghost use Rattle.std.specs.Map.{values_of};
 ghost use Rattle.std.specs.Prelude.{◌≡◌, ℕ, ◌<◌, ◌≤◌, ◌+ℤ◌, ◌≤ℤ◌, length, IfOk, OnOk, IsErrOf};
 
-use crate::arith::{difference, product, sum};
 use crate::key::MinuteKey;
 use crate::latest::FIRST_MINUTE;
 use crate::sums::add;
 use exact_lp::LpFault;
 use pair_prices::Case;
 use ratio::Width;
+use ratio::whole::{difference, product, sum};
 use std::collections::BTreeMap;
 
 /// Pays for the first minute of each platform whose use is held down, so that what is paid for the platform is above its price by just

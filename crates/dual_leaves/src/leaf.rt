@@ -3,7 +3,7 @@ ghost use Rattle.dual_leaves.specs.Kinds.{AreStationRows};
 ghost use Rattle.dual_leaves.specs.Made.{AreSizes, IsDualAccount, IsDividedLeaf, IsTooWide, IsTooWideOver};
 ghost use Rattle.dual_leaves.specs.Divided.{Divides, AreSmall};
 ghost use Rattle.dual_leaves.specs.declared.fault.DualFault.TheVariants.{Scale};
-ghost use Rattle.exact_lp.specs.Ledger.{Raised};
+ghost use Rattle.ratio.specs.Ledger.{Raised};
 ghost use Rattle.exact_lp.specs.Programs.{reduced_price, valued_leasts};
 ghost use Rattle.leaf_bounds.specs.Leaf.{value_of};
 ghost use Rattle.leaf_bounds.specs.Shown.{numbers_of, LeafStands};

@@ -3,7 +3,6 @@
 #![tactic(auto)]
 
 mod account;
-mod arith;
 mod divide;
 mod excess;
 mod fault;

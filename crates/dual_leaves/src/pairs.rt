@@ -2,13 +2,12 @@ ghost use Rattle.dual_leaves.specs.Account.{totals_of, Reads};
 ghost use Rattle.dual_leaves.specs.Kinds.{IsKind};
 ghost use Rattle.dual_leaves.specs.Shares.{key_at, train_of, IsSideRead, IsShareAdded};
 ghost use Rattle.dual_leaves.specs.declared.kind.RowKind.TheVariants.{Pair};
-ghost use Rattle.exact_lp.specs.Ledger.{Raised};
+ghost use Rattle.ratio.specs.Ledger.{Raised};
 ghost use Rattle.patterns.specs.Allowed.{list_of};
 ghost use Rattle.pattern_pricing.specs.Prices.{IsLayoutOf};
 ghost use Rattle.std.specs.Prelude.{◌≡◌, ◌<◌, ◌≤◌, length, slice_index, pos, ◌≤ℤ◌, OnOk, IsErrOf};
 
 use crate::account::Account;
-use crate::arith::{difference, product};
 use crate::key::{PairKey, Side};
 use crate::numbers::numbers_in;
 use crate::sums::add;
@@ -17,6 +16,7 @@ use pair_prices::Case;
 use pattern_pricing::{Column, Layout, PairAt, WeightAt};
 use patterns::Allowed;
 use ratio::Width;
+use ratio::whole::{difference, product};
 use std::collections::BTreeMap;
 
 /// Adds the row of a cut on two trains: its value times the cut's numbers.

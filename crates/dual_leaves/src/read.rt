@@ -1,7 +1,7 @@
 ghost use Rattle.dual_leaves.specs.Account.{totals_of, IsAccount, Reads};
 ghost use Rattle.dual_leaves.specs.Kinds.{IsKind, IsStationRow};
 ghost use Rattle.dual_leaves.specs.declared.kind.RowKind.TheVariants.{Clique, Pair, Train, Use};
-ghost use Rattle.exact_lp.specs.Ledger.{Raised};
+ghost use Rattle.ratio.specs.Ledger.{Raised};
 ghost use Rattle.exact_lp.specs.Programs.{paid_by_rows, valued_leasts};
 ghost use Rattle.patterns.specs.Allowed.{FitsBook};
 ghost use Rattle.pattern_pricing.specs.Prices.{IsLayoutOf};

@@ -1,10 +1,10 @@
 ghost use Rattle.dual_leaves.specs.Sums.{number_of, IsAdded};
-ghost use Rattle.exact_lp.specs.Ledger.{Raised};
+ghost use Rattle.ratio.specs.Ledger.{Raised};
 ghost use Rattle.std.specs.Prelude.{◌≡◌, ◌≤◌, OnOk, IsErrOf};
 
-use crate::arith::sum;
 use exact_lp::LpFault;
 use ratio::Width;
+use ratio::whole::sum;
 use std::collections::BTreeMap;
 
 /// The number of the key, and 0 where it has none.

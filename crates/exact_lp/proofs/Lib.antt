@@ -11,5 +11,4 @@ pub mod Sums
 pub mod Swapped
 pub mod Unnamed
 pub mod Values
-pub mod Whole
 pub mod Wider

@@ -3,7 +3,7 @@ use Rattle.std.specs.Prelude.{◌≡◌, ℕ, ◌+◌, ◌*◌, ◌<◌, ◌≤�
 use Rattle.exact_lp.specs.declared.answer.WeakCause.{WeakCause}
 use Rattle.exact_lp.specs.declared.answer.WeakCause.TheVariants.{Left, Pivots, Rounds, Cells, Scale}
 use Rattle.exact_lp.specs.declared.answer.Limits.{Limits}
-use Rattle.exact_lp.specs.Ledger.{Raised}
+use Rattle.ratio.specs.Ledger.{Raised}
 
 -- the limits, how many rows and columns the table can come to have at most, and the ledger before and after allow the cause
 abbrev pub MayCause : Limits → ℕ → ℕ → ℕ → ℕ → WeakCause → Type 0

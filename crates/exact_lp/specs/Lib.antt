@@ -2,7 +2,6 @@ pub mod Answers
 pub mod Columns
 pub mod Ends
 pub mod Laws
-pub mod Ledger
 pub mod Outcomes
 pub mod Places
 pub mod Programs

@@ -1,14 +1,14 @@
 ghost use Rattle.std.specs.Prelude.{◌≡◌, ℕ, ◌≤◌, ◌+◌, ◌<◌, ◌++◌, ◌∷◌, [], List, map, pos, ◌≤ℤ◌, ◌<ℤ◌, ◌*ℤ◌, ◌-ℤ◌, length, true, IfOk, OnOk, OnErr, IsErrOf};
 ghost use Rattle.ratio.specs.Cells.{cell_at};
-ghost use Rattle.exact_lp.specs.Ledger.{Raised};
+ghost use Rattle.ratio.specs.Ledger.{Raised};
 ghost use Rattle.exact_lp.specs.Places.{place_of};
 ghost use Rattle.exact_lp.specs.Tables.{IsNewRow, IsNewSpare, IsPriceRow, IsTableOf, combination};
 
-use crate::arith::{difference, product, sum};
 use crate::row::Row;
 use crate::source::{Columns, LpFault};
 use crate::stage::Swap;
 use crate::table::{COST, Table, Variable, append, cell, clear, place, signed_least, signed_value};
+use ratio::whole::{difference, product, sum};
 use ratio::{IntRow, Left, Width};
 use std::alloc::{AllocError, Global};
 

@@ -1,13 +1,13 @@
 ghost use Rattle.std.specs.Prelude.{◌≡◌, ℕ, ◌≤◌, ◌<◌, ◌↔◌, ◌*ℤ◌, ◌<ℤ◌, All, pos, length, IfOk, OnErr, IsTrue};
 ghost use Rattle.exact_lp.specs.Columns.{value_at, weighed_sum};
-ghost use Rattle.exact_lp.specs.Ledger.{Raised};
+ghost use Rattle.ratio.specs.Ledger.{Raised};
 ghost use Rattle.exact_lp.specs.Programs.{CostSame, Holds, IsWithin, valued_leasts};
 
-use crate::arith::{product, sum};
 use crate::duals::Duals;
 use crate::point::{ColumnWeight, Point};
 use crate::row::Row;
 use crate::source::Columns;
+use ratio::whole::{product, sum};
 use ratio::{Left, Ratio, Width};
 use std::cmp::Ordering;
 

@@ -1,7 +1,7 @@
 ghost use Rattle.std.specs.Prelude.{◌≡◌, ℕ, ◌≤◌, ◌+◌, ◌*◌, ◌↔◌, ◌++◌, ◌∷◌, [], All, pos, length, IfOk, IsErrOf};
 ghost use Rattle.exact_lp.specs.Answers.{MayCause};
 ghost use Rattle.exact_lp.specs.Outcomes.{AreScalesBounded, IfExact, IfWeak, NamesBelow};
-ghost use Rattle.exact_lp.specs.Ledger.{Raised};
+ghost use Rattle.ratio.specs.Ledger.{Raised};
 ghost use Rattle.exact_lp.specs.Programs.{IsLeast, ShowsLeast};
 ghost use Rattle.exact_lp.specs.declared.row.Row.{Row};
 

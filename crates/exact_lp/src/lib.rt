@@ -3,7 +3,6 @@
 #![tactic(auto)]
 
 pub mod answer;
-mod arith;
 mod build;
 mod certificate;
 mod choice;
@@ -20,6 +19,7 @@ mod stage;
 mod table;
 
 pub use answer::{Limits, Outcome, Solved, WeakCause};
+pub use certificate::{all_within, holds, point_cost};
 pub use duals::Duals;
 pub use engine::Engine;
 pub use laws::duals_bound_points;
@@ -27,6 +27,3 @@ pub use listed::Listed;
 pub use point::{ColumnWeight, Point};
 pub use row::{Row, RowCell};
 pub use source::{Columns, Cuts, LpFault, Opening};
-
-#[cfg(test)]
-mod tests;

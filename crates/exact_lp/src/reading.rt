@@ -1,9 +1,8 @@
 ghost use Rattle.std.specs.Prelude.{◌≡◌, ℕ, ◌≤◌, ◌<◌, ◌+◌, ◌↔◌, pos, ◌<ℤ◌, IsErrOf, OnErr, IsTrue, IfSome, MatchResult, IfOk, length};
 ghost use Rattle.exact_lp.specs.Columns.{AreAscendingWeights, ArePositive};
-ghost use Rattle.exact_lp.specs.Ledger.{Raised};
+ghost use Rattle.ratio.specs.Ledger.{Raised};
 ghost use Rattle.exact_lp.specs.Signs.{AreSigned};
 
-use crate::arith::{difference, product};
 use crate::duals::Duals;
 use crate::listed::Listed;
 use crate::point::{ColumnWeight, Point};
@@ -11,6 +10,7 @@ use crate::row::Row;
 use crate::source::LpFault;
 use crate::stage::Swap;
 use crate::table::{COST, SCALE, Table, Variable, cell, clear, place, turn_up};
+use ratio::whole::{difference, product};
 use ratio::{IntRow, Left, Ratio, Width};
 use std::alloc::{AllocError, Global};
 

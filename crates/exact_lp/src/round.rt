@@ -1,7 +1,7 @@
 ghost use Rattle.std.specs.Prelude.{◌≡◌, ℕ, ◌≤◌, ◌<◌, ◌+◌, ◌*◌, ◌^◌, All, pos, ◌<ℤ◌, ◌≤ℤ◌, length, IfOk, OnOk, IsTrue, OnErr, IsErrOf};
 ghost use Rattle.ratio.specs.Cells.{cell_at};
 ghost use Rattle.exact_lp.specs.Ends.{AheadIs, PlanIs, SettledIs};
-ghost use Rattle.exact_lp.specs.Ledger.{Raised};
+ghost use Rattle.ratio.specs.Ledger.{Raised};
 ghost use Rattle.exact_lp.specs.Places.{place_of};
 ghost use Rattle.exact_lp.specs.Programs.{CostSame, Holds, IsWithin, reduced_price};
 ghost use Rattle.exact_lp.specs.Tables.{IsTableOf};

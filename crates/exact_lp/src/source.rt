@@ -1,6 +1,6 @@
 ghost use Rattle.std.specs.Prelude.{◌≡◌, ℕ, ℤ, ◌<◌, ◌≤◌, ◌^◌, ◌↔◌, All, List, pos, ◌≤ℤ◌, ◌<ℤ◌, IfOk, OnOk, IfSome, IfNone, OnSome, IsErrOf};
 ghost use Rattle.exact_lp.specs.declared.source.LpFault.TheVariants.{Memory, Left as LeftFault};
-ghost use Rattle.exact_lp.specs.Ledger.{Raised};
+ghost use Rattle.ratio.specs.Ledger.{Raised};
 ghost use Rattle.exact_lp.specs.Programs.{Holds, Improves, reduced_price};
 ghost use Rattle.exact_lp.specs.Sources.{IsOpening, OpeningMeets};
 ghost use Rattle.exact_lp.specs.declared.row.Row.{Row};

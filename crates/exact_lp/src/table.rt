@@ -1,12 +1,12 @@
 ghost use Rattle.std.specs.Prelude.{◌≡◌, ◌≢◌, ℕ, ◌≤◌, ◌<◌, ◌+◌, ◌^◌, ◌++◌, ◌∷◌, [], map, pos, ◌<ℤ◌, length, OnOk, OnErr, IfOk, IfSome};
 ghost use Rattle.ratio.specs.Cells.{cell_at};
-ghost use Rattle.exact_lp.specs.Ledger.{Raised};
+ghost use Rattle.ratio.specs.Ledger.{Raised};
 ghost use Rattle.exact_lp.specs.Places.{place_of};
 ghost use Rattle.exact_lp.specs.Tables.{Clears, ClearsEach, IsTableOf, IsTurned, IsNewSpare, number_at, row_at};
 
-use crate::arith::difference;
 use crate::row::Row;
 use crate::stage::Swap;
+use ratio::whole::difference;
 use ratio::{IntRow, Left, Width};
 use std::alloc::{AllocError, Global};
 use std::mem;

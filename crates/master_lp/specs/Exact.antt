@@ -3,7 +3,7 @@ use Rattle.std.specs.Prelude.{ℕ, List, length}
 use Rattle.exact_lp.specs.declared.answer.Solved.{Solved}
 use Rattle.exact_lp.specs.declared.answer.WeakCause.{WeakCause}
 use Rattle.exact_lp.specs.declared.answer.WeakCause.TheVariants.{Left, Pivots, Rounds, Cells, Scale}
-use Rattle.exact_lp.specs.Ledger.{Raised}
+use Rattle.ratio.specs.Ledger.{Raised}
 use Rattle.master_lp.specs.Bounds.{IsTooGreat}
 use Rattle.exact_lp.specs.declared.point.Point.{Point}
 use Rattle.exact_lp.specs.declared.row.Row.{Row}

@@ -1,4 +1,4 @@
-ghost use Rattle.exact_lp.specs.Ledger.{Raised};
+ghost use Rattle.ratio.specs.Ledger.{Raised};
 ghost use Rattle.exact_lp.specs.declared.row.Row.{Row};
 ghost use Rattle.exact_lp.specs.Programs.{Holds};
 ghost use Rattle.master_lp.specs.Source.{SourceRecord};

@@ -2,7 +2,6 @@
 //! `docs/PROOFS.md`, "Fractional plans".
 #![tactic(auto)]
 
-mod arith;
 mod column;
 mod layout;
 mod paid;

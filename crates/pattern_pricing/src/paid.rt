@@ -1,13 +1,13 @@
 //! What rows pay of the columns' prices.
 
 ghost use Rattle.exact_lp.specs.Columns.{value_at};
-ghost use Rattle.exact_lp.specs.Ledger.{Raised};
+ghost use Rattle.ratio.specs.Ledger.{Raised};
 ghost use Rattle.exact_lp.specs.Programs.{paid_by_rows};
 ghost use Rattle.pattern_pricing.specs.Reduced.{HaveRoom, at, cell_sizes, paid_by_cell, paid_sizes};
 ghost use Rattle.std.specs.Prelude.{◌≡◌, ℕ, ◌≤◌, ◌<◌, length, ◌*ℤ◌, ◌-ℤ◌, unsigned_abs, OnOk, OnErr};
 
-use crate::arith::{difference, product};
 use exact_lp::{Duals, Row, RowCell};
+use ratio::whole::{difference, product};
 use ratio::{Left, Width};
 
 /// Takes from each column's number what all rows pay of it.

@@ -1,4 +1,4 @@
-ghost use Rattle.exact_lp.specs.Ledger.{Raised};
+ghost use Rattle.ratio.specs.Ledger.{Raised};
 ghost use Rattle.exact_lp.specs.Programs.{Improves, reduced_price};
 ghost use Rattle.pattern_pricing.specs.Picks.{IsPick};
 ghost use Rattle.pattern_pricing.specs.Prices.{IsLayoutOf, column_count, column_price};

@@ -1,4 +1,4 @@
-ghost use Rattle.exact_lp.specs.Ledger.{Raised};
+ghost use Rattle.ratio.specs.Ledger.{Raised};
 ghost use Rattle.pattern_pricing.specs.Layout.{columns_of};
 ghost use Rattle.pattern_pricing.specs.Positions.{patterns_in, start_of};
 ghost use Rattle.pattern_pricing.specs.Prices.{IsLayoutOf, prices_of};
@@ -7,13 +7,13 @@ ghost use Rattle.pair_prices.specs.Top.{top_of};
 ghost use Rattle.std.specs.Int.{w128};
 ghost use Rattle.std.specs.Prelude.{◌≡◌, ◌≤◌, ◌<◌, ◌+◌, ◌*◌, ◌^◌, ◌++◌, ◌∷◌, [], length, pos, ◌*ℤ◌, unsigned_abs, FitsSigned, IfOk, OnOk, IsErrOf};
 
-use crate::arith::product;
 use crate::layout::Layout;
 use crate::paid::pay_rows;
 use crate::prices::{pattern_price, rest_price};
 use exact_lp::{Duals, LpFault};
 use pair_prices::Case;
 use ratio::Width;
+use ratio::whole::product;
 use std::alloc::Global;
 
 /// The reduced price of each column, in the order of their numbers: the scale of the duals times the price, less the value

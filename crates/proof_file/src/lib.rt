@@ -19,6 +19,3 @@ pub use laws::{
 pub use reader::ProofReader;
 pub use record::{HeadRecord, ProofRecord, TableHead};
 pub use write::{write_proof, write_shared};
-
-#[cfg(test)]
-mod tests;

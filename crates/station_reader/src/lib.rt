@@ -17,8 +17,6 @@ mod range;
 mod reader;
 mod refusal;
 mod shape;
-#[cfg(test)]
-mod tests;
 mod trains;
 mod tree;
 mod unknown;

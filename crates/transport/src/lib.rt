@@ -380,6 +380,3 @@ fn best<C: Cost>(
         columns: solved.columns,
     })
 }
-
-#[cfg(test)]
-mod tests;

@@ -1,7 +1,7 @@
 use Rattle.std.proofs.Common.{arith, ◌≡◌, FitsSigned, ℕ, Bool, IsTrue, ◌==◌}
 use Rattle.std.specs.Int.{w128}
 use Rattle.std.proofs.lemmas.Int.{to_z-of_z}
-use Rattle.exact_lp.proofs.Whole.{same_through, equal_from_cmp}
+use Rattle.ratio.proofs.Fractions.{same_through, equal_from_cmp}
 use Rattle.exact_lp.proofs.certificate.same_fraction.Goals as goal
 
 told : (b : Bool) (n : ℕ) → b ≡ (n == 1) → IsTrue b → n ≡ 1

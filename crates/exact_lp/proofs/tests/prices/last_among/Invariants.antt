@@ -1,9 +1,0 @@
-use Rattle.std.proofs.Common.{◌≤◌, take}
-use Rattle.std.specs.Prelude.{All}
-use Rattle.exact_lp.proofs.tests.prices.last_among.Given as goal
-
-abbrev pub invariant-loop-cell : goal.invariant-loop-cell
-invariant-loop-cell l = record {
-  kept : l.before ≤ l.last;
-  so_far : All (λ cell. cell.column ≤ l.last) (take l.cell-index l.cells);
-}

@@ -1,6 +1,0 @@
-use Rattle.std.proofs.Common.{◌≤◌, take}
-use Rattle.std.specs.Prelude.{All}
-use Rattle.exact_lp.proofs.tests.prices.last_named.Given as goal
-
-abbrev pub invariant-loop-row : goal.invariant-loop-row
-invariant-loop-row l = All (λ row. All (λ cell. cell.column ≤ l.last) row.cells) (take l.row-index l.rows)

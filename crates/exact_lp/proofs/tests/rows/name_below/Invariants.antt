@@ -1,7 +1,0 @@
-use Rattle.std.proofs.Common.{take}
-use Rattle.std.specs.Prelude.{All}
-use Rattle.exact_lp.specs.Outcomes.{NamesBelow}
-use Rattle.exact_lp.proofs.tests.rows.name_below.Given as goal
-
-abbrev pub invariant-loop-row : goal.invariant-loop-row
-invariant-loop-row l = All (λ row. NamesBelow l.count row) (take l.row-index l.rows)

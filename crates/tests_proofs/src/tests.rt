@@ -1,0 +1,4 @@
+mod checking;
+mod leaves;
+mod shared;
+mod texts;

@@ -1,0 +1,6 @@
+mod ascent;
+mod judging;
+mod meetings;
+mod plans;
+mod search;
+mod stations;

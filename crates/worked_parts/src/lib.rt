@@ -1,5 +1,0 @@
-//! Columns of a linear program.
-#![tactic(auto)]
-
-#[cfg(test)]
-mod tests;
