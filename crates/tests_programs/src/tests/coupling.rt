@@ -3,8 +3,9 @@ ghost use Rattle.transport.specs.Coupling.{total};
 ghost use Rattle.std.proofs.Common.{arith};
 ghost use Rattle.std.proofs.lemmas.Bool.Decides.{nat_tests};
 
+use std::alloc::{AllocError, Global};
 use std::test::Fail;
-use transport::*;
+use transport::{Cost, NoCouple, TableCell, couple, couple_cells, least_cost};
 
 /// Costs 0 where row and column are the same, and 5 elsewhere.
 #[derive(Clone, Copy)]

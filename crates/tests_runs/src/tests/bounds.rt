@@ -1,12 +1,10 @@
 // Searches whose linear program may not go far.
 use branching::Found;
 use master_lp::{Limits, WeakCause};
-use pair_prices::Case;
 use ratio::Width;
-use station_reader::read_station;
-use std::alloc::{AllocError, Global};
+use std::alloc::Global;
 use std::test::Fail;
-use tests_stations::{F, K, Plain, plain_station};
+use tests_stations::{F, K, Plain, case_of, plain_station};
 
 /// What a search with 7 splits came to.
 #[derive(Clone, Copy, PartialEq, Eq, Debug)]
@@ -17,12 +15,8 @@ struct End {
 }
 
 // None where the splits were spent.
-fn searched(alloc: Global, station: &Plain, limits: &Limits) -> Result<Option<End>, AllocError> {
-    let text = plain_station(alloc, station)?;
-    let Ok(station) = read_station(alloc, text.as_bytes()) else {
-        return Ok(None);
-    };
-    let case = Case::new(alloc, station)?;
+fn searched(alloc: Global, station: &Plain, limits: &Limits) -> Result<Option<End>, Fail> {
+    let case = case_of(alloc, &plain_station(alloc, station)?)?;
     let mut width = Width::new();
     let found = branching::solve(alloc, &case, 7, limits, &mut width)?;
     Ok(end_of(&found))
@@ -46,14 +40,14 @@ fn cost_within(
     alloc: Global,
     station: &Plain,
     limits: &Limits,
-) -> Result<Option<Option<i64>>, AllocError> {
+) -> Result<Option<Option<i64>>, Fail> {
     match searched(alloc, station, limits)? {
         Some(ended) => Ok(Some(ended.cost)),
         None => Ok(None),
     }
 }
 
-fn is_decided(alloc: Global, limits: &Limits) -> Result<bool, AllocError> {
+fn is_decided(alloc: Global, limits: &Limits) -> Result<bool, Fail> {
     let f = cost_within(alloc, &F, limits)?;
     let k = cost_within(alloc, &K, limits)?;
     Ok(f == Some(Some(10)) && k == Some(None))
